@@ -1,0 +1,3 @@
+pub mod Errnos
+pub mod Reading
+pub mod Salts
