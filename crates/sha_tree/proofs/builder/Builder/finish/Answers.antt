@@ -1,0 +1,12 @@
+use Rattle.std.proofs.Common.{List, ap, sym, subst, ◌∙◌}
+use Rattle.mg_base.specs.declared.values.Digest.{Digest}
+use Rattle.sha_tree.specs.Fed.{Fed, IsFed}
+use Rattle.sha_tree.specs.Tree.{AreLeaves}
+use Rattle.sha_tree.proofs.LeafCuts.{stored_put}
+use Rattle.sha_tree.proofs.builder.Builder.finish.Goals as goal
+
+pub returns-clause-stored : goal.returns-clause-stored
+returns-clause-stored c = λ bytes h.
+    let fed = subst (λ (f : Fed). IsFed f bytes) (sym c.self.view_is) h in
+    let leaves = subst (λ (l : List Digest). AreLeaves bytes c.self.inside.salt l) (sym c.deref.ensures.value) (c.in_ok-close.ensures.leaves bytes fed.cut) in
+    stored_put bytes _ _ _ _ _ _ _ leaves (ap (λ (f : Fed). f.salt) c.self.view_is) (c.in-Some.ensures.value ∙ c.len.ensures ∙ sym c.deref.ensures.len) c.top-top.ensures.value c.new-stored.ensures.items (c.in_ok-put_levels.ensures bytes leaves)

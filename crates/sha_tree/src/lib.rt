@@ -1,0 +1,136 @@
+//! Hash trees over pages of 4096 bytes.
+#![tactic(auto)]
+
+ghost use Rattle.std.specs.Prelude.{◌≡◌, ℕ, ◌+◌, ◌-◌, ◌*◌, ◌≤◌, ◌<◌, ◌↔◌, List, length, take, drop, ◌++◌, replicate, IfSome, IsSome};
+ghost use Rattle.sha2.specs.Hashers.{Holds256};
+ghost use Rattle.sha_tree.specs.Tree.{padded_salt, page_hash, top, pages_at, place, ancestor};
+
+use mg_base::{Digest, Page, Salt};
+use sha2::{Digest as Hasher, Sha256};
+use std::marker::Model;
+
+mod builder;
+mod finish;
+mod leaves;
+pub mod measure;
+
+pub use builder::{BuildFault, Builder, build_tree};
+pub use finish::Tree;
+pub use leaves::{leaf_root, page_digest};
+pub use measure::Measure;
+
+const ZEROS: [u8; 64] = [0; 64];
+
+// A hasher that took in the padded salt.
+pub(crate) fn salted(salt: &Salt) -> Sha256
+    ensures { Holds256 result (padded_salt salt.now) }
+{
+    let mut hasher = Sha256::new();
+    let bytes = salt.bytes();
+    if bytes.len() > 0 {
+        hasher.update(bytes);
+        let more = 64 - bytes.len();
+        hasher.update(&ZEROS[..more]);
+    }
+    hasher
+}
+
+/// The hash of a page: the padded salt and the page's bytes.
+pub fn hash_page(salt: &Salt, page: &Page) -> Digest
+    ensures { result.0 ≡ page_hash salt.now page.now }
+{
+    let mut hasher = salted(salt);
+    hasher.update(page.bytes());
+    Digest(hasher.finalize())
+}
+
+/// The shape of the tree over so many blocks. Contracts see their number.
+#[derive(Drop)]
+pub struct Geometry {
+    blocks: u64,
+}
+
+impl Model for Geometry {
+    ghost use Rattle.std.specs.Prelude.{ℕ, ◌≤◌};
+
+    ghost Value = { ℕ };
+
+    ghost view = { λ g. g.blocks };
+
+    ghost invariant = { λ g. g.blocks ≤ 1048576 };
+}
+
+impl Geometry {
+    /// The most blocks of a tree.
+    pub const LIMIT: u64 = 1_048_576;
+
+    pub fn new(blocks: u64) -> Option<Geometry>
+        ensures variant { IsSome result ↔ (blocks ≤ 1048576) }
+        ensures value { IfSome result (λ g. g ≡ blocks) }
+    {
+        if blocks <= Geometry::LIMIT {
+            Some(Geometry { blocks })
+        } else {
+            None
+        }
+    }
+
+    /// The top level.
+    pub fn top(&self) -> u32
+        ensures value { result ≡ top self.now }
+        ensures few { result ≤ 3 }
+        ensures blocks { self.now ≤ 1048576 }
+    {
+        let blocks = self.blocks;
+        if blocks <= 1 {
+            0
+        } else if blocks <= 128 {
+            1
+        } else if blocks <= 16_384 {
+            2
+        } else {
+            3
+        }
+    }
+
+    /// The number of pages of a level.
+    pub fn pages(&self, level: u32) -> u64
+        requires { level ≤ top self.now }
+        ensures value { result ≡ pages_at self.now level }
+        ensures few { result ≤ 1048576 }
+    {
+        let mut count = self.blocks;
+        'levels: for _level in 0..level {
+            count = (count + 127) / 128;
+        }
+        count
+    }
+
+    /// The place of a tree page in the stored tree.
+    pub fn place(&self, level: u32, index: u64) -> u64
+        requires low { 1 ≤ level }
+        requires high { level ≤ top self.now }
+        requires within { index < pages_at self.now level }
+        ensures value { result ≡ place self.now level index }
+        ensures few { result < 4194304 }
+    {
+        let top = self.top();
+        let mut before = 0;
+        'levels: for above in level..top {
+            before += self.pages(above + 1);
+        }
+        before + index
+    }
+}
+
+/// The page of a level that stands over a block.
+pub fn ancestor_of(block: u64, level: u32) -> u64
+    ensures value { result ≡ ancestor block level }
+    ensures small { result ≤ block }
+{
+    let mut index = block;
+    'levels: for _level in 0..level {
+        index /= 128;
+    }
+    index
+}
