@@ -11,11 +11,13 @@ use std::marker::Model;
 
 mod builder;
 mod finish;
+mod laws;
 mod leaves;
 pub mod measure;
 
 pub use builder::{BuildFault, Builder, build_tree};
 pub use finish::Tree;
+pub use laws::paths_are_sound;
 pub use leaves::{leaf_root, page_digest};
 pub use measure::Measure;
 
