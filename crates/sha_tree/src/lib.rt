@@ -3,7 +3,7 @@
 
 ghost use Rattle.std.specs.Prelude.{◌≡◌, ℕ, ◌+◌, ◌-◌, ◌*◌, ◌≤◌, ◌<◌, ◌↔◌, List, length, take, drop, ◌++◌, replicate, IfSome, IsSome};
 ghost use Rattle.sha2.specs.Hashers.{Holds256};
-ghost use Rattle.sha_tree.specs.Tree.{padded_salt, page_hash, top, pages_at, place, ancestor};
+ghost use Rattle.sha_tree.specs.Tree.{padded_salt, page_hash, top, pages_at, tree_pages, place, ancestor};
 
 use mg_base::{Digest, Page, Salt};
 use sha2::{Digest as Hasher, Sha256};
@@ -17,7 +17,7 @@ pub mod measure;
 
 pub use builder::{BuildFault, Builder, build_tree};
 pub use finish::Tree;
-pub use laws::paths_are_sound;
+pub use laws::{paths_are_sound, stored_pages_lie_in_order};
 pub use leaves::{leaf_root, page_digest};
 pub use measure::Measure;
 
@@ -108,13 +108,27 @@ impl Geometry {
         count
     }
 
-    /// The place of a tree page in the stored tree.
+    /// How many pages stand above the blocks.
+    pub fn tree_pages(&self) -> u64
+        ensures value { result ≡ tree_pages self.now }
+        ensures few { result ≤ 8257 }
+    {
+        let top = self.top();
+        let mut count = 0;
+        'levels: for below in 0..top {
+            count += self.pages(below + 1);
+        }
+        count
+    }
+
+    /// The number of a page above the blocks in the stored tree, which has the levels from the top down.
     pub fn place(&self, level: u32, index: u64) -> u64
         requires low { 1 ≤ level }
         requires high { level ≤ top self.now }
         requires within { index < pages_at self.now level }
         ensures value { result ≡ place self.now level index }
-        ensures few { result < 4194304 }
+        ensures inside { result < tree_pages self.now }
+        ensures few { result < 8257 }
     {
         let top = self.top();
         let mut before = 0;
