@@ -17,5 +17,4 @@ pub fn paths_are_sound()
 pub fn stored_pages_lie_in_order()
     ensures places { (bytes salt : List ℕ) → IsStored (stored_tree bytes salt) bytes salt }
     ensures len { (bytes salt : List ℕ) → length (stored_tree bytes salt) ≡ 4096 * tree_pages (block_count (length bytes)) }
-{
-}
+{}
