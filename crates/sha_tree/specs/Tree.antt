@@ -46,9 +46,9 @@ unfoldable pub levels_above : ℕ → ℕ → ℕ
 levels_above zero count = 0
 levels_above (suc more) count = if nat_le count 1 then 0 else suc (levels_above more (div_up count 128))
 
--- the first level with at most one page, for up to 128 ^ 9 blocks
+-- the first level with at most one page, for up to 128 ^ 10 blocks
 unfoldable pub top : ℕ → ℕ
-top count = levels_above 9 count
+top count = levels_above 10 count
 
 -- the number of pages above the blocks
 unfoldable pub tree_pages : ℕ → ℕ

@@ -46,6 +46,20 @@ pub fn hash_page(salt: &Salt, page: &Page) -> Digest
     Digest(hasher.finalize())
 }
 
+/// The top level over so many blocks: the first with at most one page. It takes no memory.
+pub fn top_level(blocks: u64) -> u32
+    ensures value { result ≡ top blocks }
+    ensures few { result ≤ 10 }
+{
+    let mut level = 0;
+    let mut count = blocks;
+    'levels: while count > 1 {
+        count = count.div_ceil(128);
+        level += 1;
+    }
+    level
+}
+
 /// The shape of the tree over so many blocks. Contracts see their number.
 #[derive(Drop)]
 pub struct Geometry {
@@ -83,16 +97,7 @@ impl Geometry {
         ensures few { result ≤ 3 }
         ensures blocks { self.now ≤ 1048576 }
     {
-        let blocks = self.blocks;
-        if blocks <= 1 {
-            0
-        } else if blocks <= 128 {
-            1
-        } else if blocks <= 16_384 {
-            2
-        } else {
-            3
-        }
+        top_level(self.blocks)
     }
 
     /// The number of pages of a level.
