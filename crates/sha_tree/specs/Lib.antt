@@ -2,3 +2,4 @@ pub mod Tree
 pub mod Fed
 pub mod Faults
 pub mod Measured
+pub mod Path

@@ -28,9 +28,13 @@ blocks bytes = map (block bytes) (range_with_len 0 (block_count (length bytes)))
 unfoldable pub padded_salt : List ℕ → List ℕ
 padded_salt salt = salt ++ replicate ((64 - length salt % 64) % 64) 0
 
+-- what is hashed for a page: the padded salt, and the page
+abbrev pub hash_input : List ℕ → List ℕ → List ℕ
+hash_input salt page = padded_salt salt ++ page
+
 -- the hash of a page
 unfoldable pub page_hash : List ℕ → List ℕ → List ℕ
-page_hash salt page = sha256 (padded_salt salt ++ page)
+page_hash salt page = sha256 (hash_input salt page)
 
 -- the number of pages of a level, over so many blocks
 unfoldable pub pages_at : ℕ → ℕ → ℕ
@@ -42,9 +46,13 @@ unfoldable pub levels_above : ℕ → ℕ → ℕ
 levels_above zero count = 0
 levels_above (suc more) count = if nat_le count 1 then 0 else suc (levels_above more (div_up count 128))
 
--- the first level with at most one page, for up to 128 ^ 9 blocks
+-- the first level with at most one page, for up to 128 ^ 10 blocks
 unfoldable pub top : ℕ → ℕ
-top count = levels_above 9 count
+top count = levels_above 10 count
+
+-- the number of pages above the blocks
+unfoldable pub tree_pages : ℕ → ℕ
+tree_pages count = sum_by (pages_at count) (range_with_len 1 (top count))
 
 -- the pages of the level below that page i of a level stands over
 unfoldable pub children : ℕ → ℕ → List ℕ

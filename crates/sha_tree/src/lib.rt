@@ -3,7 +3,7 @@
 
 ghost use Rattle.std.specs.Prelude.{◌≡◌, ℕ, ◌+◌, ◌-◌, ◌*◌, ◌≤◌, ◌<◌, ◌↔◌, List, length, take, drop, ◌++◌, replicate, IfSome, IsSome};
 ghost use Rattle.sha2.specs.Hashers.{Holds256};
-ghost use Rattle.sha_tree.specs.Tree.{padded_salt, page_hash, top, pages_at, place, ancestor};
+ghost use Rattle.sha_tree.specs.Tree.{padded_salt, page_hash, top, pages_at, tree_pages, place, ancestor};
 
 use mg_base::{Digest, Page, Salt};
 use sha2::{Digest as Hasher, Sha256};
@@ -11,11 +11,13 @@ use std::marker::Model;
 
 mod builder;
 mod finish;
+mod laws;
 mod leaves;
 pub mod measure;
 
 pub use builder::{BuildFault, Builder, build_tree};
 pub use finish::Tree;
+pub use laws::{paths_are_sound, stored_pages_lie_in_order};
 pub use leaves::{leaf_root, page_digest};
 pub use measure::Measure;
 
@@ -42,6 +44,20 @@ pub fn hash_page(salt: &Salt, page: &Page) -> Digest
     let mut hasher = salted(salt);
     hasher.update(page.bytes());
     Digest(hasher.finalize())
+}
+
+/// The top level over so many blocks: the first with at most one page. It takes no memory.
+pub fn top_level(blocks: u64) -> u32
+    ensures value { result ≡ top blocks }
+    ensures few { result ≤ 10 }
+{
+    let mut level = 0;
+    let mut count = blocks;
+    'levels: while count > 1 {
+        count = count.div_ceil(128);
+        level += 1;
+    }
+    level
 }
 
 /// The shape of the tree over so many blocks. Contracts see their number.
@@ -81,16 +97,7 @@ impl Geometry {
         ensures few { result ≤ 3 }
         ensures blocks { self.now ≤ 1048576 }
     {
-        let blocks = self.blocks;
-        if blocks <= 1 {
-            0
-        } else if blocks <= 128 {
-            1
-        } else if blocks <= 16_384 {
-            2
-        } else {
-            3
-        }
+        top_level(self.blocks)
     }
 
     /// The number of pages of a level.
@@ -106,13 +113,27 @@ impl Geometry {
         count
     }
 
-    /// The place of a tree page in the stored tree.
+    /// How many pages stand above the blocks.
+    pub fn tree_pages(&self) -> u64
+        ensures value { result ≡ tree_pages self.now }
+        ensures few { result ≤ 8257 }
+    {
+        let top = self.top();
+        let mut count = 0;
+        'levels: for below in 0..top {
+            count += self.pages(below + 1);
+        }
+        count
+    }
+
+    /// The number of a page above the blocks in the stored tree, which has the levels from the top down.
     pub fn place(&self, level: u32, index: u64) -> u64
         requires low { 1 ≤ level }
         requires high { level ≤ top self.now }
         requires within { index < pages_at self.now level }
         ensures value { result ≡ place self.now level index }
-        ensures few { result < 4194304 }
+        ensures inside { result < tree_pages self.now }
+        ensures few { result < 8257 }
     {
         let top = self.top();
         let mut before = 0;
@@ -134,3 +155,6 @@ pub fn ancestor_of(block: u64, level: u32) -> u64
     }
     index
 }
+
+#[cfg(test)]
+mod tests;
