@@ -1,0 +1,5 @@
+pub mod States
+pub mod Calls
+pub mod Pieces
+pub mod Steps
+pub mod Walk
