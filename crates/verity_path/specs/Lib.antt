@@ -3,3 +3,4 @@ pub mod Calls
 pub mod Pieces
 pub mod Steps
 pub mod Walk
+pub mod Lies

@@ -2,10 +2,12 @@
 #![tactic(auto)]
 
 mod ask;
+pub mod laws;
 pub mod served;
 pub mod states;
 pub mod walk;
 
+pub use crate::laws::mismatches_lie;
 pub use crate::served::Served;
 pub use crate::states::{Anchor, Mismatch, Proved, check};
 pub use crate::walk::{Buffers, Layout, WalkFault, walk_page};
