@@ -1,0 +1,6 @@
+pub mod States
+pub mod Calls
+pub mod Pieces
+pub mod Steps
+pub mod Walk
+pub mod Lies

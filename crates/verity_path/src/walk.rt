@@ -1,0 +1,137 @@
+// The walk from the top page down to a block.
+ghost use Rattle.std.specs.Prelude.{◌≡◌, ℕ, ◌+◌, ◌-◌, ◌*◌, ◌/◌, ◌^◌, ◌≤◌, ◌<◌, List, length, IfOk, IfErr, IfSome, OnErr, OnOk, slice_range};
+ghost use Rattle.host_traits.specs.Did.{Did};
+ghost use Rattle.sha_tree.specs.Tree.{page_hash, padded, top, pages_at};
+ghost use Rattle.verity_path.specs.Calls.{Suits, IsOnPath};
+ghost use Rattle.verity_path.specs.Steps.{IsCallFor, FetchOutcome, DescentOutcome};
+ghost use Rattle.verity_path.specs.Walk.{WalkOutcome};
+
+use crate::ask::{ask, piece_of};
+use crate::states::{Anchor, Mismatch, Proved, check};
+use host_traits::{Host, HostError, Raw};
+use mg_base::Page;
+use sha_tree::{Geometry, Measure, ancestor_of};
+
+/// Where the blocks and the tree of a content stand at the host.
+#[derive(Clone, Copy, Drop)]
+pub enum Layout {
+    /// A file of so many bytes, and its tree.
+    File { file: u32, size: u64 },
+    /// A disk: its blocks from a sector on, and its stored tree from a byte on.
+    Parts { disk: u32, first: u64, tree: u64 },
+}
+
+/// Room for an answer and a page.
+#[derive(Drop)]
+pub struct Buffers {
+    pub raw: Raw,
+    pub page: Page,
+}
+
+/// Why a walk came to no page.
+#[derive(Clone, Copy, Debug, PartialEq, Eq, Drop)]
+pub enum WalkFault {
+    /// A page that was heard has another digest than the one that is tied to its place.
+    Mismatch(Mismatch),
+    /// An answer had fewer bytes than were asked for.
+    Short { asked: u64, got: u64 },
+    /// A call failed; how often calls had failed after it.
+    Failed { faults: u64 },
+    /// The host had no memory.
+    Memory,
+}
+
+// Asks for the page of an anchor, and proves it.
+fn fetch<'a, H: Host>(
+    host: &mut H,
+    layout: &Layout,
+    geometry: &Geometry,
+    anchor: &Anchor,
+    buf: &'a mut Buffers,
+) -> Result<Proved<'a>, WalkFault>
+    requires low { anchor.now.level ≤ top geometry.now }
+    requires within { anchor.now.index < pages_at geometry.now anchor.now.level }
+    requires suits { Suits layout.now geometry.now }
+    ensures { Did (IsCallFor layout.now geometry.now anchor.now.level anchor.now.index) 1 (H.told host.old) (H.told host.new)
+        (FetchOutcome layout.now geometry.now anchor.now result) }
+{
+    let level = anchor.level();
+    let index = anchor.index();
+    match ask(host, layout, geometry, level, index, &mut buf.raw) {
+        Ok(()) => {}
+        Err(HostError::Failed) => {
+            let faults = host.faults();
+            return Err(WalkFault::Failed { faults });
+        }
+        Err(HostError::Memory) => return Err(WalkFault::Memory),
+    }
+    let piece = piece_of(layout, geometry, level, index);
+    let got = buf.raw.len() as u64;
+    if got < piece.asked {
+        return Err(WalkFault::Short {
+            asked: piece.asked,
+            got,
+        });
+    }
+    match check(&buf.raw, piece.from, piece.len, anchor, &mut buf.page) {
+        Ok(page) => Ok(page),
+        Err(mismatch) => Err(WalkFault::Mismatch(mismatch)),
+    }
+}
+
+// One level down on the way to a block.
+fn descend<H: Host>(
+    host: &mut H,
+    layout: &Layout,
+    geometry: &Geometry,
+    block: u64,
+    anchor: &Anchor,
+    buf: &mut Buffers,
+) -> Result<Anchor, WalkFault>
+    requires limit { geometry.now ≤ 1048576 }
+    requires some { 1 ≤ anchor.now.level }
+    requires low { anchor.now.level ≤ top geometry.now }
+    requires within { anchor.now.index < pages_at geometry.now anchor.now.level }
+    requires suits { Suits layout.now geometry.now }
+    ensures { Did (IsCallFor layout.now geometry.now anchor.now.level anchor.now.index) 1 (H.told host.old) (H.told host.new)
+        (DescentOutcome layout.now geometry.now block anchor.now result) }
+{
+    let slot = ancestor_of(block, anchor.level() - 1) % 128;
+    match fetch(host, layout, geometry, anchor, buf) {
+        Ok(page) => Ok(page.child(slot as u32)),
+        Err(fault) => Err(fault),
+    }
+}
+
+/// Walks from the top page of a measure down to a block, and proves each page on the way. It asks the host for at most one
+/// page more than the top level's number, and takes no memory.
+pub fn walk_page<'a, H: Host>(
+    host: &mut H,
+    layout: &Layout,
+    measure: &Measure,
+    index: u64,
+    buf: &'a mut Buffers,
+) -> Result<Proved<'a>, WalkFault>
+    requires within { index < measure.now.blocks }
+    requires limit { measure.now.blocks ≤ 1048576 }
+    requires suits { Suits layout.now measure.now.blocks }
+    ensures { Did (IsOnPath layout.now measure.now index) (top measure.now.blocks + 1) (H.told host.old) (H.told host.new)
+        (WalkOutcome layout.now measure.now index result) }
+{
+    let Some(geometry) = Geometry::new(measure.blocks) else {
+        unreachable!()
+    };
+    let Some(mut anchor) = Anchor::measured(measure) else {
+        unreachable!()
+    };
+    let mut level = geometry.top();
+    'levels: while level > 0 {
+        let below = match descend(host, layout, &geometry, index, &anchor, buf) {
+            Ok(below) => below,
+            Err(fault) => return Err(fault),
+        };
+        anchor = below;
+        level -= 1;
+    }
+    fetch(host, layout, &geometry, &anchor, buf)
+}
