@@ -1,0 +1,5 @@
+pub mod Held
+pub mod Told
+pub mod Did
+pub mod Streams
+pub mod Folders

@@ -1,0 +1,15 @@
+//! The outside of a guest: what it asks of its host and hears, where requests come from and where
+//! replies go, and the files of a folder.
+#![tactic(auto)]
+
+pub mod answers;
+pub mod calls;
+pub mod folder;
+pub mod host;
+pub mod streams;
+
+pub use crate::answers::{Answer, Raw};
+pub use crate::calls::{Call, Said, TapeItem};
+pub use crate::folder::{Folder, FolderCall, FolderError};
+pub use crate::host::{Host, HostError};
+pub use crate::streams::{Failed, Sink, Source};

@@ -1,0 +1,40 @@
+// Where requests come from, and where replies go.
+ghost use Rattle.std.specs.Prelude.{◌≡◌, ◌≤◌, List, ℕ, length, OnOk, OnErr, IfOk};
+ghost use Rattle.std.specs.declared.option.Option.{Option};
+ghost use Rattle.std.specs.Io.KnownBytes.{Appends, ReadConsumes};
+ghost use Rattle.host_traits.specs.Streams.{HasCause, SomePrefix};
+
+/// A read or a write failed.
+#[derive(Clone, Copy, Debug, PartialEq, Eq, Drop)]
+pub struct Failed;
+
+/// Where bytes come from.
+pub trait Source {
+    /// The bytes that are left, where they are known.
+    ghost left: { Self → Option (List ℕ) };
+
+    /// How often it failed.
+    ghost faults: { Self → ℕ };
+
+    /// Puts the next bytes into the front of the space, and says how many. None for a space that
+    /// isn't empty is the end of the input.
+    fn read(&mut self, out: &mut [u8]) -> Result<usize, Failed>
+        ensures most { IfOk result (λ n. n ≤ length out.old) }
+        ensures given { ReadConsumes (left self.old) (left self.new) result out.new }
+        ensures cause { HasCause (faults self.old) (faults self.new) result };
+}
+
+/// Where bytes go.
+pub trait Sink {
+    /// The bytes that it holds, where they are known.
+    ghost holds: { Self → Option (List ℕ) };
+
+    /// How often it failed.
+    ghost faults: { Self → ℕ };
+
+    /// Adds all the bytes. After `Failed` a front part of them was added.
+    fn write_all(&mut self, bytes: &[u8]) -> Result<(), Failed>
+        ensures ok { OnOk result (Appends (holds self.old) (holds self.new) bytes.now) }
+        ensures err { OnErr result (SomePrefix (holds self.old) (holds self.new) bytes.now) }
+        ensures cause { HasCause (faults self.old) (faults self.new) result };
+}
