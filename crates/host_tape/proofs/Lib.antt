@@ -1,0 +1,4 @@
+pub mod PlayedLemmas
+pub mod Steps
+pub mod Taken
+pub mod Grammar
