@@ -170,8 +170,7 @@ pub reads_takes : (text : List ℕ) (items : List TapeItem) (rest : List ℕ) �
 reads_takes text [] rest fits e = (tt, e)
 reads_takes text (item ∷ items) rest fits h =
     let t = record_takes text item h.0 fits h.1 in
-    let others = reads_takes (drop h.0 text) items rest (drop_bytes h.0 text fits) h.2 in
-    (
+    let others = reads_takes (drop h.0 text) items rest (drop_bytes h.0 text fits) h.2 in (
       (t.is, others.0),
       t.front ∙ ap (λ (x : List ℕ). item_bytes item ++ x) others.1 ∙ sym (append_assoc (item_bytes item) (items_bytes items) rest),
     )
@@ -181,8 +180,7 @@ pub reads_again : (items : List TapeItem) (rest : List ℕ) → AllByRecursion I
 reads_again [] rest h = refl
 reads_again (item ∷ items) rest h =
     let front : List ℕ = item_bytes item in
-    let parts : (front ++ items_bytes items) ++ rest ≡ front ++ (items_bytes items ++ rest) = append_assoc front (items_bytes items) rest in
-    (
+    let parts : (front ++ items_bytes items) ++ rest ≡ front ++ (items_bytes items ++ rest) = append_assoc front (items_bytes items) rest in (
       length front,
       ap record_of parts ∙ record_again item (items_bytes items ++ rest) h.0,
       subst (λ (x : List ℕ). Reads x items rest) (sym (ap (drop (length front)) parts ∙ drop_at front (items_bytes items ++ rest) (length front) refl)) (reads_again items rest h.1),
@@ -273,11 +271,10 @@ reading_is text (Err faults.Memory) fits h = tt
 
 -- a tape's text is read to its end
 tape_reads : (text : List ℕ) (items : List TapeItem) → IsTape text items → (take 13 text ≡ header) × Reads (drop 13 text) items []
-tape_reads text items h =
-    (
-      ap (take 13) h.1,
-      subst (λ (x : List ℕ). Reads x items []) (append-nil (items_bytes items) ∙ sym (ap (drop 13) h.1)) (reads_again items [] h.0),
-    )
+tape_reads text items h = (
+  ap (take 13) h.1,
+  subst (λ (x : List ℕ). Reads x items []) (append-nil (items_bytes items) ∙ sym (ap (drop 13) h.1)) (reads_again items [] h.0),
+)
 
 none_ends : (rest : List ℕ) → record_of rest ≡ None → Ends rest
 none_ends rest none item n e = absurd (none_some (item, n) (sym none ∙ e))

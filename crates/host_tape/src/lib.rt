@@ -10,4 +10,8 @@ mod writing;
 pub use crate::places::TapeFault;
 pub use crate::reading::read_tape;
 pub use crate::tape::Tape;
+pub use crate::writing::write_tape;
 pub use host_traits::TapeItem;
+
+#[cfg(test)]
+mod tests;
