@@ -1,5 +1,5 @@
 -- One call more on a tape.
-use Rattle.std.proofs.Common.{length-append, ◌≡◌, ℕ, ◌+◌, ◌-◌, ◌^◌, ◌<◌, ◌≤◌, min, List, [], ◌∷◌, ◌++◌, length, take, get_or, refl, ap, sym, ◌∙◌, append_assoc, append-nil, inl, inr, arith, Option, Some, None}
+use Rattle.std.proofs.Common.{length-append, ◌≡◌, ℕ, ◌+◌, ◌-◌, ◌^◌, ◌<◌, ◌≤◌, min, List, [], ◌∷◌, ◌++◌, length, refl, ap, sym, ◌∙◌, append_assoc, append-nil, inl, inr, arith, Option, Some, None}
 use Rattle.std.proofs.lemmas.Option.{slice_get_within}
 use Rattle.std.specs.Prelude.{slice_get, false, true}
 use Rattle.host_traits.specs.declared.calls.Call.{Call}
@@ -8,7 +8,7 @@ use Rattle.host_traits.specs.declared.calls.TapeItem.{TapeItem}
 use Rattle.host_traits.specs.declared.calls.TapeItem.TheVariants.{Bytes, Done, Number, Failed}
 use Rattle.host_traits.specs.Told.{Answered, Refused, Refuses, Exchanges, answer_of, kind_of, kind_bytes, kind_number, kind_done, heard_size, said_size}
 use Rattle.host_traits.proofs.Talking.{answered, refused}
-use Rattle.host_tape.specs.Played.{Played, IsPlayed, AnswersBy, tape_told, recited, exchange_of, failures, one_failure, last_failure, later_failure, or_else}
+use Rattle.host_tape.specs.Played.{Played, IsPlayed, tape_told, recited, exchange_of, failures, one_failure, last_failure, later_failure, or_else}
 
 some_is : {s r : TapeItem} → Some s ≡ Some r → s ≡ r
 some_is e = cc

@@ -1,14 +1,10 @@
 -- The next record, and what a call makes of it.
-use Rattle.std.proofs.Common.{◌≡◌, ℕ, ◌≤◌, ◌<◌, List, [], ◌∷◌, ◌++◌, length, take, Option, Some, None, refl, sym, ap, ◌∙◌, subst, inl, inr, arith}
-use Rattle.std.specs.Prelude.{slice_get, ◌⊎◌}
+use Rattle.std.proofs.Common.{◌≡◌, ℕ, List, [], ◌∷◌, ◌++◌, length, Option, Some, sym, subst}
+use Rattle.std.specs.Prelude.{slice_get}
 use Rattle.std.specs.Option.{option_map}
-use Rattle.std.proofs.lemmas.Option.{slice_get_within}
 use Rattle.host_traits.specs.declared.calls.Call.{Call}
-use Rattle.host_traits.specs.declared.calls.TapeItem.{TapeItem}
-use Rattle.host_traits.specs.declared.calls.TapeItem.TheVariants.{Bytes, Done, Number, Failed}
 use Rattle.host_traits.specs.declared.calls.Said.{Said}
-use Rattle.host_traits.specs.declared.calls.Said.TheVariants.{Number as SaidNumber, Bytes as SaidBytes, Done as SaidDone}
-use Rattle.host_traits.specs.Told.{Told, Refuses, Answered, answer_of, kind_of, kind_bytes, kind_number, kind_done, said_size}
+use Rattle.host_traits.specs.Told.{Answered, answer_of, kind_of, said_size}
 use Rattle.host_tape.specs.declared.next.Next.{Next}
 use Rattle.host_tape.specs.Next.{item_by}
 use Rattle.host_tape.specs.Played.{Played, AnswersBy, tape_told}

@@ -1,5 +1,4 @@
 -- What a lent record says.
-use Rattle.std.specs.Prelude.{List, ℕ}
 use Rattle.host_traits.specs.declared.calls.TapeItem.{TapeItem}
 use Rattle.host_traits.specs.declared.calls.TapeItem.TheVariants.{Failed, Done, Number, Bytes}
 use Rattle.host_tape.specs.declared.next.Next.{Next}

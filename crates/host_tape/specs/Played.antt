@@ -1,5 +1,5 @@
 -- What a tape has told: its records answer the calls one by one.
-use Rattle.std.specs.Prelude.{slice_get, true, false, ◌≡◌, ◌≤◌, ◌<◌, ◌+◌, ◌-◌, ◌^◌, min, ℕ, List, [], ◌∷◌, ◌++◌, length, Option, Some, None}
+use Rattle.std.specs.Prelude.{slice_get, false, ◌≡◌, ◌≤◌, ◌<◌, ◌+◌, ◌-◌, ◌^◌, min, ℕ, List, [], ◌∷◌, ◌++◌, length, Option, Some, None}
 use Rattle.host_traits.specs.declared.calls.Call.{Call}
 use Rattle.host_traits.specs.declared.calls.Said.{Said}
 use Rattle.host_traits.specs.declared.calls.TapeItem.{TapeItem}

@@ -1,5 +1,5 @@
 -- What the front of some bytes is read as, and what a tape that was read has told.
-use Rattle.std.specs.Prelude.{◌≡◌, ℕ, zero, suc, ◌+◌, ◌-◌, ◌<◌, ◌≤◌, List, [], ◌∷◌, ◌++◌, length, map, take, drop, Bool, Option, Some, None, Result, Ok, Err, ◌⊎◌, nat_lt, ◌||◌, if◌then◌else◌, All}
+use Rattle.std.specs.Prelude.{◌≡◌, ℕ, zero, suc, ◌+◌, ◌<◌, ◌≤◌, List, [], ◌∷◌, length, map, take, drop, Option, Some, None, Result, Ok, Err, ◌⊎◌, nat_lt, ◌||◌, if◌then◌else◌, All}
 use Rattle.std.specs.Int.{w32, w64, from_le_bytes}
 use Rattle.std.specs.Global.{Vec}
 use Rattle.host_traits.specs.declared.calls.TapeItem.{TapeItem}

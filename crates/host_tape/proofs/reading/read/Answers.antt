@@ -1,6 +1,6 @@
-use Rattle.std.proofs.Common.{◌≡◌, take, map, subst, List, ℕ, rules}
+use Rattle.std.proofs.Common.{◌≡◌, take, map, rules}
 use Rattle.host_tape.specs.Tape.{header}
-use Rattle.host_tape.specs.Reading.{item_in, Found}
+use Rattle.host_tape.specs.Reading.{item_in}
 use Rattle.host_tape.proofs.Grammar.{new_found}
 use Rattle.host_tape.proofs.reading.read.Goals as goal
 

@@ -1,4 +1,4 @@
-use Rattle.std.proofs.Common.{◌≡◌, ◌++◌, ◌∷◌, [], ◌+◌, List, ℕ, length, map, drop, ap, subst, sym, ◌∙◌, arith, length-take, length-drop}
+use Rattle.std.proofs.Common.{◌++◌, ◌∷◌, [], ◌+◌, List, ℕ, length, map, drop, ap, subst, sym, ◌∙◌, arith, length-take, length-drop}
 use Rattle.std.proofs.lemmas.List.{take_rest, drop_all}
 use Rattle.host_tape.specs.declared.places.Place.{Place}
 use Rattle.std.specs.Prelude.{All}

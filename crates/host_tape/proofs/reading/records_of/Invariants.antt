@@ -1,4 +1,4 @@
-use Rattle.std.proofs.Common.{◌≡◌, ◌≤◌, ◌-◌, length, map, drop}
+use Rattle.std.proofs.Common.{◌≤◌, ◌-◌, length, map, drop}
 use Rattle.host_tape.specs.Reading.{Reads, item_in, IsInside}
 use Rattle.std.specs.Prelude.{All}
 use Rattle.host_tape.proofs.reading.records_of.Given as goal

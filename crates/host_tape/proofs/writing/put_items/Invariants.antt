@@ -1,4 +1,4 @@
-use Rattle.std.proofs.Common.{◌≡◌, ◌++◌, length, take}
+use Rattle.std.proofs.Common.{◌≡◌, ◌++◌, take}
 use Rattle.std.specs.List.{AllByRecursion}
 use Rattle.host_tape.specs.Tape.{IsItem, items_bytes}
 use Rattle.host_tape.proofs.writing.put_items.Given as goal

@@ -1,11 +1,9 @@
 use Rattle.host_tape.specs.Reading.{item_in}
-use Rattle.std.proofs.Common.{map, ◌≡◌, [], ◌∷◌, ◌++◌, ◌+◌, ◌≤◌, ◌<◌, length, arith, refl, take, ap, sym, ◌∙◌, rules, Some}
+use Rattle.std.proofs.Common.{map, ◌≡◌, [], ◌∷◌, ◌++◌, length, arith, refl, Some}
 use Rattle.std.specs.Prelude.{slice_get}
 use Rattle.std.proofs.lemmas.List.{length-map}
 use Rattle.std.proofs.lemmas.Grind.{common_steps}
-use Rattle.std.proofs.lemmas.Option.{slice_get_read, slice_get_within}
-use Rattle.host_traits.specs.declared.calls.Said.TheVariants.{Number, Bytes, Done}
-use Rattle.host_tape.specs.Played.{Played, AnswersBy}
+use Rattle.std.proofs.lemmas.Option.{slice_get_within}
 use Rattle.host_tape.proofs.PlayedLemmas.{counted-answer}
 use Rattle.host_tape.proofs.tape.Tape.answer.Goals as goal
 
