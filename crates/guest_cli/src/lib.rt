@@ -1,0 +1,8 @@
+//! The guest: boot, the work of a frame, the session over a stream, and the top call with its words and statuses.
+#![tactic(auto)]
+
+pub mod engine;
+pub mod entropy;
+
+pub use crate::engine::{Engine, FrameAnswer, answer_frame};
+pub use crate::entropy::Entropy;
