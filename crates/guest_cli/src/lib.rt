@@ -3,6 +3,8 @@
 
 pub mod engine;
 pub mod entropy;
+pub mod log;
+pub mod session;
 
 pub use crate::engine::{Engine, FrameAnswer, answer_frame};
 pub use crate::entropy::Entropy;

@@ -4,7 +4,7 @@ use Rattle.std.specs.Prelude.{flat_map, ◌⊎◌}
 use Rattle.std.specs.Io.KnownBytes.{Appends}
 use Rattle.std.proofs.lemmas.List.{length-append}
 use Rattle.host_traits.specs.declared.calls.Call.{Call}
-use Rattle.host_traits.specs.Told.{Told, Exchanges, Failures, heard_more, heard_size}
+use Rattle.host_traits.specs.Told.{Told, Exchanges, Talked, Failures, heard_more, heard_size}
 use Rattle.host_traits.specs.Did.{Trace, trace_of, trace_after, Did}
 use Rattle.host_traits.proofs.Talking.{talked_not, talked_on}
 use Rattle.session_frames.specs.Frames.{Framed}
@@ -14,7 +14,7 @@ use Rattle.verity_path.specs.declared.device.Cause.{Cause}
 use Rattle.verity_path.specs.declared.device.Device.{Device}
 use Rattle.guest_rules.specs.Machine.{State, Moment, moment, Turn, nowhere, request_of}
 use Rattle.guest_rules.specs.Step.{IsFor, most_for, Row, Step, Stepped, WhyRefused}
-use Rattle.guest_rules.specs.Run.{Run, Ran, out_bytes, log_line, log_bytes, frame_size, frames_of}
+use Rattle.guest_rules.specs.Run.{Run, Runs, Ran, out_bytes, log_line, log_bytes, frame_size, frames_of}
 
 -- what the host tells of a failure, at the moments before and after
 why_refused : (old_state new_state : State) (a b : Told) (heard own : Exchanges) → Failures a b own
@@ -47,10 +47,6 @@ appends_none : (a : Option (List ℕ)) → Appends a a []
 appends_none None = tt
 appends_none (Some xs) = sym (append-nil xs)
 
-flat_map-snoc : {X Y : Type 0} (f : X → List Y) (xs : List X) (x : X) → flat_map f (xs ++ x ∷ []) ≡ flat_map f xs ++ f x
-flat_map-snoc f [] x = append-nil (f x)
-flat_map-snoc f (y ∷ xs) x = ap (λ z. f y ++ z) (flat_map-snoc f xs x) ∙ sym (append_assoc (f y) (flat_map f xs) (f x))
-
 flat_map-both : {X Y : Type 0} (f : X → List Y) (xs ys : List X) → flat_map f (xs ++ ys) ≡ flat_map f xs ++ flat_map f ys
 flat_map-both f [] ys = refl
 flat_map-both f (y ∷ xs) ys = ap (λ z. f y ++ z) (flat_map-both f xs ys) ∙ sym (append_assoc (f y) (flat_map f xs) (flat_map f ys))
@@ -60,12 +56,11 @@ frames_both [] ys = refl
 frames_both (t ∷ xs) ys = ap (λ z. t.frame ∷ z) (frames_both xs ys)
 
 -- how many bytes the frames of turns have
-pub turns_size : List Turn → ℕ
+abbrev pub turns_size : List Turn → ℕ
 turns_size [] = 0
 turns_size (t ∷ turns) = frame_size t.frame + turns_size turns
 
 log_both : (at : ℕ) (xs ys : List Turn) → log_bytes at (xs ++ ys) ≡ log_bytes at xs ++ log_bytes (at + turns_size xs) ys
-unfolding turns_size
 log_both at [] ys = ap (λ n. log_bytes n ys) (let e : at ≡ at + 0 = omega arith in e)
 log_both at (t ∷ xs) ys =
     let place : at + frame_size t.frame + turns_size xs ≡ at + (frame_size t.frame + turns_size xs) = omega arith in
@@ -80,25 +75,47 @@ heard_same : (h : Option Exchanges) (heard own : Exchanges) → h ≡ Some heard
 heard_same h heard own e = rw e refl
 
 -- no frame yet
-pub ran_none : (items : List Device) (state : State) (a : Told) (at : ℕ) (out log : Option (List ℕ)) → Ran items state state a a at out out log log []
-ran_none items state a at out log = record { talked = talked_not a; run = λ heard is. ap (moment state a) (sym (append-nil heard)); written = appends_none out; logged = appends_none log }
+runs_none : (items : List Device) (state : State) (a : Told) → Runs items state state a a []
+runs_none items state a = record { talked = talked_not a; run = λ heard is. ap (moment state a) (sym (append-nil heard)) }
 
 -- frames, and then others
-pub ran_both : (items : List Device) (r s t : State) (a b c : Told) (at : ℕ) (out_a out_b out_c log_a log_b log_c : Option (List ℕ)) (xs ys : List Turn)
-    → Ran items r s a b at out_a out_b log_a log_b xs → Ran items s t b c (at + turns_size xs) out_b out_c log_b log_c ys → Ran items r t a c at out_a out_c log_a log_c (xs ++ ys)
-ran_both items r s t a b c at out_a out_b out_c log_a log_b log_c xs ys p q = record {
+pub runs_both : (items : List Device) (r s t : State) (a b c : Told) (xs ys : List Turn) → Runs items r s a b xs → Runs items s t b c ys → Runs items r t a c (xs ++ ys)
+runs_both items r s t a b c xs ys p q = record {
   talked = rw (flat_map-both (λ (t : Turn). t.own) xs ys) (talked_on a b c _ _ p.talked q.talked);
   run = λ heard is.
       let told : b.heard ≡ Some (heard ++ flat_map (λ (t : Turn). t.own) xs) = p.talked.heard ∙ heard_same a.heard heard _ is in
       let later = q.run (heard ++ flat_map (λ (t : Turn). t.own) xs) told in
       rw (flat_map-both (λ (t : Turn). t.own) xs ys, ← append_assoc heard (flat_map (λ (t : Turn). t.own) xs) (flat_map (λ (t : Turn). t.own) ys)) (run_both items _ xs _ ys _ (p.run heard is) later);
-  written = rw (flat_map-both (λ (t : Turn). reply_frame t.sent) xs ys) (appends_then out_a out_b out_c (out_bytes xs) (out_bytes ys) p.written q.written);
-  logged = rw (log_both at xs ys) (appends_then log_a log_b log_c (log_bytes at xs) (log_bytes (at + turns_size xs) ys) p.logged q.logged);
 }
 
 -- the turn of a frame that was answered
 abbrev pub turn_of : (items : List Device) (s t : State) (b c : Told) (frame : Framed) (sent : Sent) (cause : Option Cause) → Stepped items s t b c frame sent cause → Turn
 turn_of items s t b c frame sent cause step = record { frame = frame; own = step.own; sent = sent; cause = cause }
+
+-- one frame
+pub runs_one : (items : List Device) (s t : State) (b c : Told) (frame : Framed) (sent : Sent) (cause : Option Cause) → (step : Stepped items s t b c frame sent cause)
+    → ((heard : Exchanges) → b.heard ≡ Some heard → heard_size heard < 2 ^ 30) → Runs items s t b c (turn_of items s t b c frame sent cause step ∷ [])
+runs_one items s t b c frame sent cause step few = record {
+  talked = rw (append-nil step.own) step.talked;
+  run = λ heard is. (moment t c (heard ++ step.own), few heard is, step.step heard is, rw (append-nil step.own) refl);
+}
+
+pub ran_none : (items : List Device) (state : State) (a : Told) (at : ℕ) (out log : Option (List ℕ)) → Ran items state state a a at out out log log []
+ran_none items state a at out log = record { runs = runs_none items state a; written = appends_none out; logged = appends_none log }
+
+pub written_both : (out_a out_b out_c : Option (List ℕ)) (xs ys : List Turn) → Appends out_a out_b (out_bytes xs) → Appends out_b out_c (out_bytes ys) → Appends out_a out_c (out_bytes (xs ++ ys))
+written_both out_a out_b out_c xs ys p q = rw (flat_map-both (λ (t : Turn). reply_frame t.sent) xs ys) (appends_then out_a out_b out_c (out_bytes xs) (out_bytes ys) p q)
+
+pub logged_both : (log_a log_b log_c : Option (List ℕ)) (at : ℕ) (xs ys : List Turn) → Appends log_a log_b (log_bytes at xs) → Appends log_b log_c (log_bytes (at + turns_size xs) ys) → Appends log_a log_c (log_bytes at (xs ++ ys))
+logged_both log_a log_b log_c at xs ys p q = rw (log_both at xs ys) (appends_then log_a log_b log_c (log_bytes at xs) (log_bytes (at + turns_size xs) ys) p q)
+
+pub ran_both : (items : List Device) (r s t : State) (a b c : Told) (at : ℕ) (out_a out_b out_c log_a log_b log_c : Option (List ℕ)) (xs ys : List Turn)
+    → Ran items r s a b at out_a out_b log_a log_b xs → Ran items s t b c (at + turns_size xs) out_b out_c log_b log_c ys → Ran items r t a c at out_a out_c log_a log_c (xs ++ ys)
+ran_both items r s t a b c at out_a out_b out_c log_a log_b log_c xs ys p q = record {
+  runs = runs_both items r s t a b c xs ys p.runs q.runs;
+  written = written_both out_a out_b out_c xs ys p.written q.written;
+  logged = logged_both log_a log_b log_c at xs ys p.logged q.logged;
+}
 
 -- one frame, its line and its reply written
 pub ran_one : (items : List Device) (s t : State) (b c : Told) (at : ℕ) (out_b out_c log_b log_c : Option (List ℕ)) (frame : Framed) (sent : Sent) (cause : Option Cause)
@@ -106,8 +123,7 @@ pub ran_one : (items : List Device) (s t : State) (b c : Told) (at : ℕ) (out_b
     → Appends out_b out_c (reply_frame sent) → Appends log_b log_c (log_line at cause)
     → Ran items s t b c at out_b out_c log_b log_c (turn_of items s t b c frame sent cause step ∷ [])
 ran_one items s t b c at out_b out_c log_b log_c frame sent cause step few out log = record {
-  talked = rw (append-nil step.own) step.talked;
-  run = λ heard is. (moment t c (heard ++ step.own), few heard is, step.step heard is, rw (append-nil step.own) refl);
+  runs = runs_one items s t b c frame sent cause step few;
   written = rw (append-nil (reply_frame sent)) out;
   logged = rw (append-nil (log_line at cause)) log;
 }

@@ -70,10 +70,13 @@ abbrev pub log_bytes : ℕ → List Turn → List ℕ
 log_bytes at [] = []
 log_bytes at (t ∷ turns) = log_line at t.cause ++ log_bytes (at + frame_size t.frame) turns
 
--- Frames were answered in these turns, from an offset on: the turns are a run, and the replies and the lines of the log were
--- written and nothing else.
-pub record Ran (items : List Device) (old_state new_state : State) (old new : Told) (at : ℕ) (out_old out_new log_old log_new : Option (List ℕ)) (turns : List Turn) : Type 0 where
+-- frames were answered in these turns: the turns are a run, and their exchanges are what was added to what was heard
+pub record Runs (items : List Device) (old_state new_state : State) (old new : Told) (turns : List Turn) : Type 0 where
   pub talked : Talked old new (flat_map (λ t. t.own) turns)
   pub run : (heard : Exchanges) → old.heard ≡ Some heard → Run items nowhere (moment old_state old heard) turns (moment new_state new (heard ++ flat_map (λ t. t.own) turns))
+
+-- the same from an offset on, and the replies and the lines of the log were written and nothing else
+pub record Ran (items : List Device) (old_state new_state : State) (old new : Told) (at : ℕ) (out_old out_new log_old log_new : Option (List ℕ)) (turns : List Turn) : Type 0 where
+  pub runs : Runs items old_state new_state old new turns
   pub written : Appends out_old out_new (out_bytes turns)
   pub logged : Appends log_old log_new (log_bytes at turns)

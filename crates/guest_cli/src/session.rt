@@ -1,0 +1,188 @@
+// Frames, one after another, from a stream that comes in pieces.
+ghost use Rattle.std.specs.Prelude.{◌≡◌, ◌≤◌, ◌<◌, ◌+◌, ◌^◌, ℕ, List, [], length, OnOk, OnErr, ◌⊎◌};
+ghost use Rattle.host_traits.specs.Told.{Rose};
+ghost use Rattle.session_frames.specs.Frames.{Fronts, IsCutOff};
+ghost use Rattle.guest_rules.specs.Machine.{Turn};
+ghost use Rattle.guest_cli.specs.Turns.{TurnOutcome};
+ghost use Rattle.guest_cli.specs.Session.{HeldOutcome, PieceOutcome, IsSession, end_of};
+
+use crate::engine::{Engine, answer_frame};
+use crate::log::cause_line;
+use host_traits::{Failed, Host, Sink, Source};
+use session_frames::{Next, Splitter, write_frame};
+
+/// The most bytes that a session reads or hears.
+pub const LIMIT: u64 = 1_073_741_824;
+
+/// Why a session ended before its input did.
+#[derive(Clone, Copy, Debug, PartialEq, Eq, Drop)]
+pub enum SessionEnd {
+    /// The source failed.
+    Read,
+    /// A sink failed.
+    Write,
+    /// At this offset of the stream no frame begins, or the stream ends inside one.
+    BadFrame { at: u64 },
+    /// More than 2^30 bytes came, or at least so many were heard before a frame was answered.
+    TooMuch,
+    /// At this offset begins a frame of a channel that isn't served yet.
+    Unbuilt { at: u64 },
+}
+
+// Why the frames at the front were not all answered.
+#[derive(Clone, Copy, Debug, PartialEq, Eq, Drop)]
+enum Stop {
+    Bad,
+    Write,
+    TooMuch,
+    Unbuilt,
+}
+
+// Answers one frame: its line of the log first, then its reply.
+fn turn<H: Host, K: Sink, L: Sink>(
+    engine: &mut Engine,
+    host: &mut H,
+    payload: &[u8],
+    at: u64,
+    out: &mut K,
+    log: &mut L,
+) -> Result<(), Failed>
+    requires payload { length payload.now ≡ 16 }
+    ensures items { engine.new.items ≡ engine.old.items }
+    ensures turn { TurnOutcome engine.old.items engine.old.state engine.new.state (H.told host.old) (H.told host.new) at (K.holds out.old) (K.holds out.new) (L.holds log.old) (L.holds log.new) payload.now result }
+    ensures out { K.faults out.old ≤ K.faults out.new }
+    ensures log { L.faults log.old ≤ L.faults log.new }
+    ensures cause { OnErr result (Rose (K.faults out.old) (K.faults out.new) ⊎ Rose (L.faults log.old) (L.faults log.new)) }
+{
+    let answer = answer_frame(engine, host, 1, payload);
+    if let Some(cause) = answer.cause {
+        let line = cause_line(at, &cause);
+        match log.write_all(line.bytes()) {
+            Ok(()) => {}
+            Err(failed) => return Err(failed),
+        }
+    }
+    write_frame(&answer.reply, engine.served(), out)
+}
+
+// Answers each whole frame at the front.
+fn answer_held<H: Host, K: Sink, L: Sink>(
+    engine: &mut Engine,
+    host: &mut H,
+    splitter: &mut Splitter,
+    out: &mut K,
+    log: &mut L,
+) -> Result<(), Stop>
+    requires { splitter.old.at + length splitter.old.held < 2 ^ 64 }
+    ensures items { engine.new.items ≡ engine.old.items }
+    ensures held { HeldOutcome engine.old.items engine.old.state engine.new.state (H.told host.old) (H.told host.new) (K.holds out.old) (K.holds out.new) (L.holds log.old) (L.holds log.new) splitter.old splitter.new result }
+    ensures out { K.faults out.old ≤ K.faults out.new }
+    ensures log { L.faults log.old ≤ L.faults log.new }
+    ensures cause { result ≡ Err Stop.Write → Rose (K.faults out.old) (K.faults out.new) ⊎ Rose (L.faults log.old) (L.faults log.new) }
+{
+    loop {
+        let (channel, payload) = match splitter.next() {
+            Next::Frame { channel, payload } => (channel, payload),
+            Next::More => return Ok(()),
+            Next::Bad => return Err(Stop::Bad),
+        };
+        if channel != 1 {
+            return Err(Stop::Unbuilt);
+        }
+        if host.heard_bytes() >= LIMIT {
+            return Err(Stop::TooMuch);
+        }
+        match turn(engine, host, payload, splitter.at(), out, log) {
+            Ok(()) => {}
+            Err(_) => return Err(Stop::Write),
+        }
+        splitter.done();
+    }
+}
+
+// Answers each frame that is whole with the next piece.
+fn answer_piece<H: Host, K: Sink, L: Sink>(
+    engine: &mut Engine,
+    host: &mut H,
+    splitter: &mut Splitter,
+    piece: &[u8],
+    out: &mut K,
+    log: &mut L,
+) -> Result<(), Stop>
+    requires at { splitter.old.at + (length splitter.old.held + length piece.now) < 2 ^ 64 }
+    requires cut { IsCutOff splitter.old.held }
+    ensures items { engine.new.items ≡ engine.old.items }
+    ensures piece { PieceOutcome engine.old.items engine.old.state engine.new.state (H.told host.old) (H.told host.new) (K.holds out.old) (K.holds out.new) (L.holds log.old) (L.holds log.new) splitter.old piece.now splitter.new result }
+    ensures out { K.faults out.old ≤ K.faults out.new }
+    ensures log { L.faults log.old ≤ L.faults log.new }
+    ensures cause { result ≡ Err Stop.Write → Rose (K.faults out.old) (K.faults out.new) ⊎ Rose (L.faults log.old) (L.faults log.new) }
+{
+    let mut left = piece;
+    while left.len() > 0 {
+        let taken = splitter.feed(left);
+        left = &left[taken..];
+        match answer_held(engine, host, splitter, out, log) {
+            Ok(()) => {}
+            Err(stop) => return Err(stop),
+        }
+    }
+    Ok(())
+}
+
+// What a stop at this offset ends the session with.
+fn ended(stop: Stop, at: u64) -> SessionEnd
+    ensures { result ≡ end_of stop at }
+{
+    match stop {
+        Stop::Bad => SessionEnd::BadFrame { at },
+        Stop::Write => SessionEnd::Write,
+        Stop::TooMuch => SessionEnd::TooMuch,
+        Stop::Unbuilt => SessionEnd::Unbuilt { at },
+    }
+}
+
+/// Reads a stream and answers each of its frames, in order, the line of the log before the reply. It takes at least one byte
+/// of the stream a turn, and ends when the input does, at a frame's border, or before that for the reason that it gives.
+/// Replies and log don't depend on the pieces in which the stream comes. It does work linear in the stream, and takes no memory.
+pub fn session<H: Host, S: Source, K: Sink, L: Sink>(
+    engine: &mut Engine,
+    splitter: &mut Splitter,
+    host: &mut H,
+    input: &mut S,
+    out: &mut K,
+    log: &mut L,
+) -> Result<(), SessionEnd>
+    requires { splitter.old ≡ record { held = []; at = 0 } }
+    ensures items { engine.new.items ≡ engine.old.items }
+    ensures run { IsSession engine.old.items engine.old.state engine.new.state (H.told host.old) (H.told host.new) (S.left input.old) (S.left input.new) (K.holds out.old) (K.holds out.new) (L.holds log.old) (L.holds log.new) result }
+    ensures read { result ≡ Err SessionEnd.Read → Rose (S.faults input.old) (S.faults input.new) }
+    ensures write { result ≡ Err SessionEnd.Write → Rose (K.faults out.old) (K.faults out.new) ⊎ Rose (L.faults log.old) (L.faults log.new) }
+    ensures out { K.faults out.old ≤ K.faults out.new }
+    ensures log { L.faults log.old ≤ L.faults log.new }
+{
+    let mut room = [0; 4096];
+    let mut total = 0u64;
+    for turn in 0..LIMIT + 1 {
+        let got = match input.read(&mut room) {
+            Ok(got) => got,
+            Err(_) => return Err(SessionEnd::Read),
+        };
+        if got == 0 {
+            if splitter.len() == 0 {
+                return Ok(());
+            }
+            let at = splitter.at();
+            return Err(SessionEnd::BadFrame { at });
+        }
+        let within = (LIMIT - total).min(got as u64) as usize;
+        match answer_piece(engine, host, splitter, &room[..within], out, log) {
+            Ok(()) => {}
+            Err(stop) => return Err(ended(stop, splitter.at())),
+        }
+        if within < got {
+            return Err(SessionEnd::TooMuch);
+        }
+        total += within as u64;
+    }
+    unreachable!()
+}
