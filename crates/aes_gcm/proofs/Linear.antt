@@ -170,15 +170,15 @@ pub doubled : (n h p k m count : ℕ) (old new : List ℕ) → m ≡ 2 ^ k → c
 doubled n h p k m count old new em ec before is below above j lt = elim (cases_lt j (2 ^ k)) [
   | inl low ↦ below j (omega (arith, ec)) ∙ before j low
   | inr high ↦
-    let i : ℕ = j - 2 ^ k in
-    let twice : 2 ^ (k + 1) ≡ 2 ^ k + 2 ^ k = ap (λ (x : ℕ). 2 ^ x) (omega arith) ∙ two-pow-succ k in
-    let place : count + i ≡ j = omega (arith, ec) in
-    let at : 2 ^ k + i ≡ j = omega arith in
-    let within : i < 2 ^ k = omega (arith, twice) in
-    ap (slice_index new) (sym place) ∙ above i (omega (arith, ec, within))
-    ∙ (λ q. bit_xor ((is ∙ ap (λ (x : ℕ). product_steps n x h) em) q) (before i within q))
-    ∙ sym (steps-power n k i h within)
-    ∙ ap (λ (x : ℕ). product_steps n x h) at
+      let i : ℕ = j - 2 ^ k in
+      let twice : 2 ^ (k + 1) ≡ 2 ^ k + 2 ^ k = ap (λ (x : ℕ). 2 ^ x) (omega arith) ∙ two-pow-succ k in
+      let place : count + i ≡ j = omega (arith, ec) in
+      let at : 2 ^ k + i ≡ j = omega arith in
+      let within : i < 2 ^ k = omega (arith, twice) in
+      ap (slice_index new) (sym place) ∙ above i (omega (arith, ec, within))
+      ∙ (λ q. bit_xor ((is ∙ ap (λ (x : ℕ). product_steps n x h) em) q) (before i within q))
+      ∙ sym (steps-power n k i h within)
+      ∙ ap (λ (x : ℕ). product_steps n x h) at
 ]
 
 pub steps-none_of : (h : ℕ) → product_steps 8 0 h ≡ 0

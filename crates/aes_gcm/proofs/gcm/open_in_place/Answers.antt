@@ -11,7 +11,7 @@ returns-then-ne-clause-opened c =
     let apart : c.tag_of-computed.result ≢ c.args.tag.now = search rules in (
       search rules,
       λ op. absurd (apart (c.tag_of-computed.ensures ∙ (λ i. tag (c.new-aes.ensures i) n a x)
-      ∙ opens_tag c.args.key.now n a x c.args.tag.now x (omega arith) (omega arith) op)),
+          ∙ opens_tag c.args.key.now n a x c.args.tag.now x (omega arith) (omega arith) op)),
     )
 
 pub returns-then-ne-clause-nothing : goal.returns-then-ne-clause-nothing
