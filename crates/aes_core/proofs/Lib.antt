@@ -4,3 +4,4 @@ pub mod Words
 pub mod Looks
 pub mod Scalars
 pub mod Mixing
+pub mod Bytes

@@ -6,9 +6,10 @@ use Rattle.std.proofs.lemmas.List.{append-nil, append_assoc, drop_all, drop_at, 
 use Rattle.std.proofs.Math.Seq.{take-add}
 use borrow.Rule.Slice.PartMut.{put_mid}
 use Rattle.aes_core.specs.Aes.{cipher, xor_bytes}
+use Rattle.aes_core.proofs.Bytes.{All-from, HasBytes, HasBytes-append, HasBytes-cipher, HasBytes-from, HasBytes-xor_bytes}
 use Rattle.aes_core.proofs.Words.{length-cipher, length-xor_bytes}
 use Rattle.aes_gcm.specs.Ghash.{block_count, ghash, ghash_from, padded}
-use Rattle.aes_gcm.specs.Gcm.{IsOnlyText, IsUnder, ciphertext, counter_block, hash_key, key_stream, lengths, seal, tag, under_stream}
+use Rattle.aes_gcm.specs.Gcm.{AreBytes, IsOnlyText, IsUnder, ciphertext, counter_block, hash_key, key_stream, lengths, seal, tag, under_stream}
 use Rattle.aes_gcm.proofs.Strings.{ghash-append, ghash-whole}
 
 -- a list written in two parts
@@ -182,12 +183,21 @@ length-under k n t e =
     omega (arith, length-key_stream k n 2 (block_count (length t)) e, length-xor_bytes t s)
 
 -- a ciphertext is that of one text
-pub only_text : (k n c : List ℕ) → length k ≡ 32 → IsOnlyText k n c (under_stream k n c)
+HasBytes-key_stream : (k n : List ℕ) (i b : ℕ) → HasBytes k → HasBytes (key_stream k n i b)
+unfolding key_stream
+HasBytes-key_stream k n i zero h = tt
+HasBytes-key_stream k n i (suc b) h =
+    HasBytes-append (key_stream k n i b) (cipher k (counter_block n (i + b))) (HasBytes-key_stream k n i b h) (HasBytes-cipher k (counter_block n (i + b)) h)
+
+pub only_text : (k n c : List ℕ) → length k ≡ 32 → AreBytes k → AreBytes c → IsOnlyText k n c (under_stream k n c)
 unfolding ciphertext
-only_text k n c e = record {
-  sealed = stream_twice k n c e;
-  only = λ u eq. sym (stream_twice k n u e) ∙ ap (under_stream k n) eq;
-}
+only_text k n c e bk bc =
+    let s = key_stream k n 2 (block_count (length c)) in
+    let stream = HasBytes-key_stream k n 2 (block_count (length c)) (HasBytes-from k bk) in record {
+      bytes = All-from (under_stream k n c) (HasBytes-xor_bytes c s (HasBytes-from c bc) stream);
+      sealed = stream_twice k n c e;
+      only = λ u eq. sym (stream_twice k n u e) ∙ ap (under_stream k n) eq;
+    }
 
 -- the texts of one seal are one
 pub opened_once : (k n a b t u : List ℕ) → length k ≡ 32 → seal k n a t ≡ b → seal k n a u ≡ b → t ≡ u

@@ -1,5 +1,6 @@
 -- AES-256-GCM with a nonce of 96 bits and a tag of 128 (SP 800-38D, sections 6.5 and 7).
-use Rattle.std.specs.Prelude.{◌≡◌, ℕ, zero, suc, ◌+◌, ◌-◌, ◌*◌, ◌/◌, ◌%◌, ◌^◌, List, [], ◌∷◌, ◌++◌, take, drop, length, replicate}
+use Rattle.std.specs.Prelude.{◌≡◌, ℕ, zero, suc, ◌+◌, ◌-◌, ◌*◌, ◌/◌, ◌%◌, ◌^◌, ◌<◌, List, [], ◌∷◌, ◌++◌, take, drop, length, replicate}
+use Rattle.std.specs.List.{All}
 use Rattle.std.specs.Int.{w32, w64, w128, from_be_bytes, to_be_bytes}
 use Rattle.aes_core.specs.Aes.{cipher, xor_bytes}
 use Rattle.aes_gcm.specs.Ghash.{block_count, ghash, padded}
@@ -41,8 +42,13 @@ seal k n a t = ciphertext k n t ++ tag k n a (ciphertext k n t)
 abbrev pub Opens : List ℕ → List ℕ → List ℕ → List ℕ → List ℕ → Type 0
 Opens k n a b t = seal k n a t ≡ b
 
+-- each is a number below 256
+abbrev pub AreBytes : List ℕ → Type 0
+AreBytes xs = All (λ b. b < 256) xs
+
 -- c is the ciphertext of the text t, and of no other
 pub record IsOnlyText (k n c t : List ℕ) : Type 0 where
+  pub bytes : AreBytes t
   pub sealed : ciphertext k n t ≡ c
   pub only : (u : List ℕ) → ciphertext k n u ≡ c → u ≡ t
 

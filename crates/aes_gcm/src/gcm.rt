@@ -1,5 +1,5 @@
 // Counter mode, the tag, and sealing and opening in place.
-ghost use Rattle.std.specs.Prelude.{◌≡◌, ◌↔◌, ℕ, ◌+◌, ◌*◌, ◌/◌, ◌^◌, ◌<◌, ◌≤◌, ◌++◌, List, length, IsErr, IsOk, IfErr, OnErr};
+ghost use Rattle.std.specs.Prelude.{◌≡◌, ◌≢◌, ◌↔◌, ℕ, ◌+◌, ◌*◌, ◌/◌, ◌^◌, ◌<◌, ◌≤◌, ◌++◌, List, length, IsOk, IfErr, OnErr};
 ghost use Rattle.aes_core.specs.Aes.{cipher, xor_bytes};
 ghost use Rattle.aes_gcm.specs.Gcm.{IsUnder, Opens, ciphertext, counter_block, lengths, seal, tag as gcm_tag, under_stream};
 
@@ -151,9 +151,10 @@ pub fn open_in_place(
     requires head { length head.now ≤ 65536 }
     requires text { length text.old ≤ 65536 }
     ensures opened { IsOk result ↔ Opens key.now nonce.now head.now (text.old ++ tag.now) text.new }
-    ensures refused { IsErr result ↔ ¬ (gcm_tag key.now nonce.now head.now text.old ≡ tag.now) }
+    ensures accepted { IsOk result ↔ (gcm_tag key.now nonce.now head.now text.old ≡ tag.now) }
     ensures computed { IfErr result (λ e. e.computed ≡ gcm_tag key.now nonce.now head.now text.old) }
     ensures found { IfErr result (λ e. e.found ≡ tag.now) }
+    ensures differ { IfErr result (λ e. e.computed ≢ e.found) }
     ensures unchanged { OnErr result (text.new ≡ text.old) }
     ensures nothing { OnErr result ((t : List ℕ) → ¬ Opens key.now nonce.now head.now (text.old ++ tag.now) t) }
 {
