@@ -6,7 +6,8 @@ use Rattle.std.proofs.Math.Nat.{two-pow-succ}
 use Rattle.std.proofs.lemmas.Bool.{cases_lt}
 use Rattle.std.proofs.lemmas.Nat.{pow_pos, xor_block, xor_comm, xor_mod, xor_shr, xor_lt, shr-shr, shr_split, and_mask}
 use Rattle.std.proofs.lemmas.Nat.Bits.{bit_at_lowest, bit_at_xor, bit_at-lt, bit_at_cat_low, shr_and_one}
-use Rattle.aes_gcm.specs.Ghash.{selected, shifted, shifts, product, product_steps}
+use Rattle.aes_gcm.specs.Ghash.{selected, shifted, product, product_steps}
+use Rattle.aes_gcm.specs.Parts.{shifts}
 
 -- the sum of two sums, by their first and their second parts
 pub xor_swap : (a b c d : ℕ) → bit_xor (bit_xor a b) (bit_xor c d) ≡ bit_xor (bit_xor a c) (bit_xor b d)
@@ -184,3 +185,71 @@ doubled n h p k m count old new em ec before is below above j lt = elim (cases_l
 pub steps-none_of : (h : ℕ) → product_steps 8 0 h ≡ 0
 unfolding product_steps
 steps-none_of h = refl
+
+-- one place more
+shifts-more : (n v : ℕ) → shifts (n + 1) v ≡ shifted (shifts n v)
+unfolding shifts
+shifts-more zero v = refl
+shifts-more (suc n) v = let e : suc n + 1 ≡ suc (n + 1) = omega arith in ap (λ (k : ℕ). shifts k v) e ∙ shifts-more n (shifted v)
+
+pub shifts-next : (n v s t : ℕ) → s ≡ shifts n v → t ≡ shifted s → t ≡ shifts (n + 1) v
+shifts-next n v s t es et = et ∙ ap shifted es ∙ sym (shifts-more n v)
+
+-- the sums of four and of four more, by pairs
+fours : (a b c d p q r s : ℕ) → bit_xor (bit_xor (bit_xor (bit_xor a b) c) d) (bit_xor (bit_xor (bit_xor p q) r) s)
+    ≡ bit_xor (bit_xor (bit_xor (bit_xor a p) (bit_xor b q)) (bit_xor c r)) (bit_xor d s)
+fours a b c d p q r s =
+    xor_swap (bit_xor (bit_xor a b) c) d (bit_xor (bit_xor p q) r) s
+    ∙ ap (λ (y : ℕ). bit_xor y (bit_xor d s)) (xor_swap (bit_xor a b) c (bit_xor p q) r
+    ∙ ap (λ (y : ℕ). bit_xor y (bit_xor c r)) (xor_swap a b p q))
+
+-- the four words of x, each with m of its low bits taken
+abbrev pub four_words : ℕ → ℕ → ℕ → ℕ
+four_words m x h =
+    bit_xor (bit_xor (bit_xor (product_steps m (x / 2 ^ 96) h) (product_steps m (x / 2 ^ 64) (shifts 32 h)))
+    (product_steps m (x / 2 ^ 32) (shifts 32 (shifts 32 h)))) (product_steps m x (shifts 32 (shifts 32 (shifts 32 h))))
+
+-- a byte more of each word
+pub four_words-more : (m x h z t s a b c d : ℕ) → z ≡ four_words m x h → s ≡ shifts 8 z
+    → a ≡ product_steps 8 (x / 2 ^ (96 + m) % 256) h
+    → b ≡ product_steps 8 (x / 2 ^ (64 + m) % 256) (shifts 32 h)
+    → c ≡ product_steps 8 (x / 2 ^ (32 + m) % 256) (shifts 32 (shifts 32 h))
+    → d ≡ product_steps 8 (x / 2 ^ m % 256) (shifts 32 (shifts 32 (shifts 32 h)))
+    → t ≡ bit_xor s (bit_xor (bit_xor (bit_xor a b) c) d) → t ≡ four_words (8 + m) x h
+four_words-more m x h z t s a b c d ez es ea eb ec ed et =
+    let A = product_steps m (x / 2 ^ 96) h in
+    let B = product_steps m (x / 2 ^ 64) (shifts 32 h) in
+    let C = product_steps m (x / 2 ^ 32) (shifts 32 (shifts 32 h)) in
+    let D = product_steps m x (shifts 32 (shifts 32 (shifts 32 h))) in
+    let sums : s ≡ bit_xor (bit_xor (bit_xor (shifts 8 A) (shifts 8 B)) (shifts 8 C)) (shifts 8 D) =
+    es ∙ ap (shifts 8) ez ∙ shifts-xor 8 (bit_xor (bit_xor A B) C) D
+    ∙ ap (λ (y : ℕ). bit_xor y (shifts 8 D)) (shifts-xor 8 (bit_xor A B) C ∙ ap (λ (y : ℕ). bit_xor y (shifts 8 C)) (shifts-xor 8 A B)) in
+    let wa = word_more m x 96 h a ea in
+    let wb = word_more m x 64 (shifts 32 h) b eb in
+    let wc = word_more m x 32 (shifts 32 (shifts 32 h)) c ec in
+    let wd = last_more m x (shifts 32 (shifts 32 (shifts 32 h))) d ed in
+    et ∙ ap (λ (y : ℕ). bit_xor y (bit_xor (bit_xor (bit_xor a b) c) d)) sums
+    ∙ fours (shifts 8 A) (shifts 8 B) (shifts 8 C) (shifts 8 D) a b c d
+    ∙ (λ i. bit_xor (bit_xor (bit_xor (wa i) (wb i)) (wc i)) (wd i))
+  where
+    last_more : (m x v d : ℕ) → d ≡ product_steps 8 (x / 2 ^ m % 256) v → bit_xor (shifts 8 (product_steps m x v)) d ≡ product_steps (8 + m) x v
+    last_more m x v d e = ap (bit_xor (shifts 8 (product_steps m x v))) e ∙ xor_comm (shifts 8 (product_steps m x v)) (product_steps 8 (x / 2 ^ m % 256) v) ∙ sym (steps-byte m x v)
+
+    word_more : (m x k v d : ℕ) → d ≡ product_steps 8 (x / 2 ^ (k + m) % 256) v → bit_xor (shifts 8 (product_steps m (x / 2 ^ k) v)) d ≡ product_steps (8 + m) (x / 2 ^ k) v
+    word_more m x k v d e =
+        let place : x / 2 ^ (k + m) ≡ x / 2 ^ k / 2 ^ m = sym (shr-shr x k m) in
+        last_more m (x / 2 ^ k) v d (e ∙ ap (λ (y : ℕ). product_steps 8 (y % 256) v) place)
+
+pub four_words-all : (x h z : ℕ) → z ≡ four_words 32 x h → z ≡ product_steps 128 x h
+four_words-all x h z e =
+    let g = shifts 32 h in
+    let f = shifts 32 g in
+    let A = product_steps 32 (x / 2 ^ 96) h in
+    let B = product_steps 32 (x / 2 ^ 64) g in
+    let C = product_steps 32 (x / 2 ^ 32) f in
+    let D = product_steps 32 x (shifts 32 f) in
+    e ∙ xor_assoc (bit_xor A B) C D
+    ∙ ap (bit_xor (bit_xor A B)) (sym (steps-split 32 32 x f))
+    ∙ xor_assoc A B (product_steps 64 x f)
+    ∙ ap (bit_xor A) (sym (steps-split 32 64 x g))
+    ∙ sym (steps-split 32 96 x h)

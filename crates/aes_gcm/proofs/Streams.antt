@@ -9,7 +9,8 @@ use Rattle.aes_core.specs.Aes.{cipher, xor_bytes}
 use Rattle.aes_core.proofs.Bytes.{All-from, HasBytes, HasBytes-append, HasBytes-cipher, HasBytes-from, HasBytes-xor_bytes}
 use Rattle.aes_core.proofs.Words.{length-cipher, length-xor_bytes}
 use Rattle.aes_gcm.specs.Ghash.{block_count, ghash, ghash_from, padded}
-use Rattle.aes_gcm.specs.Gcm.{AreBytes, IsOnlyText, IsUnder, ciphertext, counter_block, hash_key, key_stream, lengths, seal, tag, under_stream}
+use Rattle.aes_gcm.specs.Gcm.{AreBytes, IsOnlyText, ciphertext, counter_block, hash_key, key_stream, lengths, seal, tag, under_stream}
+use Rattle.aes_gcm.specs.Parts.{IsUnder}
 use Rattle.aes_gcm.proofs.Strings.{ghash-append, ghash-whole}
 
 -- a list written in two parts

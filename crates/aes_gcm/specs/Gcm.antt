@@ -51,8 +51,3 @@ pub record IsOnlyText (k n c t : List ℕ) : Type 0 where
   pub bytes : AreBytes t
   pub sealed : ciphertext k n t ≡ c
   pub only : (u : List ℕ) → ciphertext k n u ≡ c → u ≡ t
-
--- the first i blocks of the text xs are under the stream, and the others are as they were
-abbrev pub IsUnder : List ℕ → List ℕ → List ℕ → List ℕ → ℕ → Type 0
-IsUnder k n xs text i = (length (key_stream k n 2 i) ≡ 16 * i)
-    × (text ≡ xor_bytes (take (16 * i) xs) (key_stream k n 2 i) ++ drop (16 * i) xs)

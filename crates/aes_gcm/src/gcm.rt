@@ -1,9 +1,10 @@
 // Counter mode, the tag, and sealing and opening in place.
 ghost use Rattle.std.specs.Prelude.{◌≡◌, ◌≢◌, ◌↔◌, ℕ, ◌+◌, ◌*◌, ◌/◌, ◌^◌, ◌<◌, ◌≤◌, ◌++◌, List, length, IsOk, IfErr, OnErr};
 ghost use Rattle.aes_core.specs.Aes.{cipher, xor_bytes};
-ghost use Rattle.aes_gcm.specs.Gcm.{IsUnder, Opens, ciphertext, counter_block, lengths, seal, tag as gcm_tag, under_stream};
+ghost use Rattle.aes_gcm.specs.Gcm.{Opens, ciphertext, counter_block, lengths, seal, tag as gcm_tag, under_stream};
+ghost use Rattle.aes_gcm.specs.Parts.{IsUnder};
 
-use crate::ghash::{absorb, byte_products};
+use crate::ghash::{absorb, tables_of};
 use aes_core::Aes256;
 use std::simd::u8x16;
 
@@ -103,10 +104,10 @@ fn tag_of(aes: &Aes256, nonce: &[u8; 12], head: &[u8], text: &[u8]) -> [u8; 16]
     let mut zeros = [0u8; 16];
     let mut mask = counter(nonce, 1);
     aes.encrypt_two(&mut zeros, &mut mask);
-    let table = byte_products(u128::from_be_bytes(zeros));
-    let after_head = absorb(&table, 0, head);
-    let after_text = absorb(&table, after_head, text);
-    let hash = absorb(&table, after_text, &lengths_of(head, text));
+    let tables = tables_of(u128::from_be_bytes(zeros));
+    let after_head = absorb(&tables, 0, head);
+    let after_text = absorb(&tables, after_head, text);
+    let hash = absorb(&tables, after_text, &lengths_of(head, text));
     let mut result = hash.to_be_bytes();
     xor_in(&mut result, &mask);
     result

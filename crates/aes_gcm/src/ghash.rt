@@ -1,8 +1,9 @@
 // Products of blocks by a table of the products of each byte.
 
-ghost use Rattle.std.specs.Prelude.{◌≡◌, ℕ, ◌+◌, ◌<◌, ◌≤◌, length, drop, take, slice_index, bit_xor, replicate, ◌++◌, ◌-◌};
+ghost use Rattle.std.specs.Prelude.{◌≡◌, ℕ, ◌+◌, ◌/◌, ◌%◌, ◌^◌, ◌<◌, ◌≤◌, length, drop, take, slice_index, bit_xor, replicate, ◌++◌, ◌-◌};
 ghost use Rattle.std.specs.Int.{w128, from_be_bytes};
-ghost use Rattle.aes_gcm.specs.Ghash.{HoldsProducts, block_count, ghash_from, padded, product, product_steps, shifted, shifts};
+ghost use Rattle.aes_gcm.specs.Ghash.{block_count, ghash_from, padded, product, product_steps, shifted};
+ghost use Rattle.aes_gcm.specs.Parts.{HasTables, HoldsProducts, shifts};
 
 use crate::reduction::REDUCTION;
 
@@ -45,7 +46,7 @@ fn double(table: &mut [u128; 256], count: usize, product: u128)
 }
 
 // The products of `h` by each byte.
-pub(crate) fn byte_products(h: u128) -> [u128; 256]
+fn byte_products(h: u128) -> [u128; 256]
     ensures { HoldsProducts h result }
 {
     let mut table = [0u128; 256];
@@ -63,12 +64,61 @@ fn shift_byte(z: u128) -> u128
     (z >> 8) ^ ((REDUCTION[(z & 0xff) as usize] as u128) << 112)
 }
 
-fn times(table: &[u128; 256], x: u128) -> u128
-    ensures { (h : ℕ) → HoldsProducts h table.now → result ≡ product x h }
+// What a hash subkey is multiplied by: for each word of four bytes of a block, from the first, the
+// products of the subkey at that word by each byte.
+#[derive(Drop)]
+pub(crate) struct Tables {
+    first: [u128; 256],
+    second: [u128; 256],
+    third: [u128; 256],
+    fourth: [u128; 256],
+}
+
+// 32 places to the right.
+fn shift_word(h: u128) -> u128
+    ensures { result ≡ shifts 32 h }
+{
+    let mut v = h;
+    for n in 0..32u32 {
+        v = shift(v);
+    }
+    v
+}
+
+// The tables of the subkey `h`.
+pub(crate) fn tables_of(h: u128) -> Tables
+    ensures { HasTables h result }
+{
+    let second = shift_word(h);
+    let third = shift_word(second);
+    let fourth = shift_word(third);
+    Tables {
+        first: byte_products(h),
+        second: byte_products(second),
+        third: byte_products(third),
+        fourth: byte_products(fourth),
+    }
+}
+
+#[inline(always)]
+fn byte_of(x: u128, at: u32) -> usize
+    requires { at < 128 }
+    ensures { result ≡ x / 2 ^ at % 256 }
+{
+    ((x >> at) & 0xff) as usize
+}
+
+// The product of a block and the subkey, the four words of the block side by side.
+fn times(tables: &Tables, x: u128) -> u128
+    ensures { (h : ℕ) → HasTables h tables.now → result ≡ product x h }
 {
     let mut z = 0u128;
-    for i in 0..16u32 {
-        z = shift_byte(z) ^ table[((x >> (8 * i)) & 0xff) as usize];
+    for i in 0..4u32 {
+        let entries = tables.first[byte_of(x, 96 + 8 * i)]
+            ^ tables.second[byte_of(x, 64 + 8 * i)]
+            ^ tables.third[byte_of(x, 32 + 8 * i)]
+            ^ tables.fourth[byte_of(x, 8 * i)];
+        z = shift_byte(z) ^ entries;
     }
     z
 }
@@ -93,20 +143,20 @@ fn padded_block(xs: &[u8]) -> u128
 }
 
 // The state after the string and zeros up to a whole block.
-pub(crate) fn absorb(table: &[u128; 256], start: u128, xs: &[u8]) -> u128
-    ensures { (h : ℕ) → HoldsProducts h table.now
+pub(crate) fn absorb(tables: &Tables, start: u128, xs: &[u8]) -> u128
+    ensures { (h : ℕ) → HasTables h tables.now
         → result ≡ ghash_from h start (padded xs.now) (block_count (length xs.now)) }
 {
     let mut y = start;
     let count = xs.len() / 16;
     for i in 0..count {
         let block = block_of(xs, 16 * i);
-        y = times(table, y ^ block);
+        y = times(tables, y ^ block);
     }
     let rest = &xs[16 * count..];
     if rest.len() > 0 {
         let block = padded_block(rest);
-        y = times(table, y ^ block);
+        y = times(tables, y ^ block);
     }
     y
 }

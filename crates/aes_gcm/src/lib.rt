@@ -45,6 +45,7 @@ mod tests {
     // Under zero key and nonce, with no head.
     #[test]
     fn seals_zeros(rt: HostRuntime) -> Result<(), Fail> {
+        one_text_each();
         assert_eq!(rt; seal_in_place(&[0; 32], &[0; 12], &[], &mut []), EMPTY_TAG);
         let mut text = [0u8; 16];
         let tag = seal_in_place(&[0; 32], &[0; 12], &[], &mut text);

@@ -1,5 +1,5 @@
 use Rattle.std.proofs.Common.{◌*◌}
-use Rattle.aes_gcm.specs.Gcm.{IsUnder}
+use Rattle.aes_gcm.specs.Parts.{IsUnder}
 use Rattle.aes_gcm.proofs.gcm.add_pairs.Given as goal
 
 abbrev pub invariant-pairs : goal.invariant-pairs

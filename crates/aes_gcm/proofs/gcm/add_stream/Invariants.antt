@@ -1,4 +1,4 @@
-use Rattle.aes_gcm.specs.Gcm.{IsUnder}
+use Rattle.aes_gcm.specs.Parts.{IsUnder}
 use Rattle.aes_gcm.proofs.gcm.add_stream.Given as goal
 
 abbrev pub invariant-loop-i : goal.invariant-loop-i
