@@ -1,5 +1,5 @@
 -- Bytes stay bytes.
-use Rattle.std.proofs.Common.{inl, inr, zero, suc, ◌++◌, take, drop, map, slice_index, ◌≡◌, ℕ, ◌+◌, ◌-◌, ◌*◌, ◌/◌, ◌%◌, ◌==◌, ◌^◌, ◌<◌, ◌≤◌, List, [], ◌∷◌, bit_xor, nat_lt, refl, ap, sym, subst, ◌∙◌, arith, false}
+use Rattle.std.proofs.Common.{inl, inr, zero, suc, ◌++◌, take, drop, map, slice_index, ◌≡◌, ℕ, ◌+◌, ◌-◌, ◌*◌, ◌/◌, ◌%◌, ◌==◌, ◌^◌, ◌<◌, List, [], ◌∷◌, bit_xor, nat_lt, ap, sym, subst, ◌∙◌, arith, false}
 use Rattle.std.specs.List.{All}
 use Rattle.std.proofs.Math.Nat.{two-pow-succ}
 use Rattle.std.proofs.lemmas.Bool.{cases_Bool, cases_lt, le-ltb, lt-ltb}

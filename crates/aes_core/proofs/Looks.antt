@@ -1,5 +1,5 @@
 -- Look-ups and sums of lanes that are each a function of the lanes of one vector.
-use Rattle.std.proofs.Common.{◌≡◌, ℕ, zero, suc, ◌+◌, ◌*◌, ◌/◌, ◌^◌, ◌<◌, Bool, true, false, ◌||◌, cond, ltb, leb, T, List, [], ◌∷◌, map, length, get_or, replicate, bit_and, bit_xor, refl, sym, ap, subst, ◌∙◌, arith, w8, Fits}
+use Rattle.std.proofs.Common.{◌≡◌, ℕ, ◌+◌, ◌*◌, ◌/◌, ◌^◌, ◌<◌, Bool, true, false, ◌||◌, cond, ltb, leb, T, List, [], ◌∷◌, map, length, get_or, replicate, bit_xor, refl, sym, ap, subst, ◌∙◌, arith, w8, Fits}
 use Rattle.std.proofs.lemmas.List.{ext_get_or, get_or-map, get_or-replicate, length-map}
 use Rattle.std.proofs.lemmas.List.FromFn.{get_or-map-range_with_len}
 use Rattle.std.proofs.lemmas.Simd.{swz_l, SwzOk, SwzOk-from_Each1, get_or-swz_l, length-swz_l, map-map, zip2_of_maps, zip2_splat}

@@ -1,5 +1,5 @@
 -- MixColumns by moves of lanes.
-use Rattle.std.proofs.Common.{◌≡◌, ℕ, zero, suc, ◌+◌, ◌*◌, ◌<◌, take, drop, List, [], ◌∷◌, ◌++◌, map, length, slice_index, bit_xor, refl, sym, ap, ◌∙◌, arith, w8}
+use Rattle.std.proofs.Common.{◌≡◌, ℕ, zero, suc, ◌+◌, ◌*◌, take, drop, List, [], ◌∷◌, ◌++◌, map, length, slice_index, bit_xor, refl, sym, ap, ◌∙◌, arith, w8}
 use Rattle.std.specs.Int.Bits.{xor_assoc}
 use Rattle.std.proofs.lemmas.Nat.{xor_comm}
 use Rattle.std.proofs.lemmas.Simd.{length-zip2, swz_l}

@@ -1,11 +1,11 @@
 -- The look-ups at each byte, computed.
-use Rattle.std.proofs.Common.{◌≡◌, ℕ, ◌+◌, ◌*◌, ◌/◌, ◌%◌, ◌^◌, ◌<◌, ◌==◌, Bool, true, List, [], ◌∷◌, ◌++◌, map, length, replicate, get_or, slice_index, bit_and, bit_xor, refl, sym, ap, subst, ◌∙◌, arith, w8, eqb→eq, T}
+use Rattle.std.proofs.Common.{◌≡◌, ℕ, ◌+◌, ◌*◌, ◌/◌, ◌%◌, ◌<◌, ◌==◌, Bool, true, List, [], ◌∷◌, map, length, replicate, slice_index, bit_xor, refl, sym, ap, subst, ◌∙◌, arith, w8, eqb→eq, T}
 use Rattle.std.specs.List.{range_with_len}
 use Rattle.std.proofs.lemmas.Nat.{xor_mod, xor_shr, xor_comm}
 use Rattle.std.specs.Int.Bits.{xor_assoc}
-use Rattle.std.proofs.lemmas.Simd.{swz_l, map-map}
+use Rattle.std.proofs.lemmas.Simd.{swz_l}
 use lib.Lanes.{zip2}
-use Rattle.aes_core.specs.Field.{affine_bits, inverse, product, product_bits, sbox}
+use Rattle.aes_core.specs.Field.{affine_bits, inverse, product_bits, sbox}
 use Rattle.aes_core.proofs.Words.{quads}
 use Rattle.aes_core.specs.Inner.{both, first_place, first_root, high, inner_byte, inner_double, inner_entry, is_place, last_entry, low, outer, outer_byte, second_place, second_root, twice}
 use Rattle.aes_core.specs.declared.lanes.TheConstants.{OUT_LOW, OUT_HIGH, OWN, NEXT, THIRD, FOURTH}

@@ -1,10 +1,10 @@
 -- Words of four bytes, rounds, and lengths.
-use Rattle.std.proofs.Common.{min, inl, inr, ◌≤◌, ◌-◌, zero, suc, ◌++◌, length, take, drop, map, slice_index, ◌≡◌, ℕ, ◌+◌, ◌*◌, ◌/◌, ◌%◌, ◌==◌, ◌^◌, ◌<◌, List, [], ◌∷◌, get_or, bit_xor, refl, ap, sym, ◌∙◌, arith}
+use Rattle.std.proofs.Common.{min, inl, inr, ◌≤◌, ◌-◌, zero, suc, ◌++◌, length, take, drop, slice_index, ◌≡◌, ℕ, ◌+◌, ◌*◌, ◌%◌, ◌==◌, ◌<◌, List, [], ◌∷◌, get_or, refl, ap, sym, ◌∙◌, arith}
 use Rattle.std.proofs.lemmas.List.{drop_more, drop-drop, take_all, length-append, length-take-le, length-drop, take-append-le, length-map, get_or-take}
 use Rattle.std.proofs.Math.Seq.{take-add}
 use Rattle.std.proofs.lemmas.Bool.{cases_Bool}
 use Rattle.aes_core.specs.Field.{sbox}
-use Rattle.aes_core.specs.Aes.{quad, next_word, changed_word, x_power, rounds, cipher, cipher_with, key_schedule, key_words, rot_word, mix_columns, round_key, shift_rows, sub_bytes, xor_bytes}
+use Rattle.aes_core.specs.Aes.{quad, next_word, changed_word, x_power, rounds, cipher, cipher_with, key_schedule, key_words, mix_columns, round_key, shift_rows, sub_bytes, xor_bytes}
 
 -- four elements cut from a list
 pub take-quad : (xs : List ℕ) (n : ℕ) → n + 4 ≤ length xs → take 4 (drop n xs) ≡ quad xs n

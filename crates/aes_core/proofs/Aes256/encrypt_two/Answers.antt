@@ -1,4 +1,4 @@
-use Rattle.std.proofs.Common.{◌≡◌, ◌∙◌, ap, List, ℕ}
+use Rattle.std.proofs.Common.{◌∙◌, ap, List, ℕ}
 use Rattle.aes_core.specs.Aes.{cipher, cipher_with, key_schedule}
 use Rattle.aes_core.proofs.Aes256.encrypt_two.Goals as goal
 

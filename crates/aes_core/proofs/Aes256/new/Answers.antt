@@ -1,4 +1,4 @@
-use Rattle.std.proofs.Common.{◌≡◌, ◌∙◌, ap, sym, take, List, ℕ, arith}
+use Rattle.std.proofs.Common.{◌∙◌, ap, sym, take, List, ℕ, arith}
 use Rattle.aes_core.specs.Aes.{key_schedule, round_key}
 use Rattle.aes_core.proofs.Words.{take-key_words}
 use Rattle.aes_core.proofs.Aes256.new.Goals as goal

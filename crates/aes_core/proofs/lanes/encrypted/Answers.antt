@@ -1,5 +1,4 @@
-use Rattle.std.proofs.Common.{◌≡◌, ◌+◌, List, ℕ, arith}
-use Rattle.aes_core.specs.Aes.{round_key}
+use Rattle.std.proofs.Common.{◌+◌, arith}
 use Rattle.aes_core.specs.Inner.{outer}
 use Rattle.aes_core.proofs.Mixing.{first_state, last, more, outer_key}
 use Rattle.aes_core.proofs.lanes.encrypted.Goals as goal

@@ -1,6 +1,4 @@
-use Rattle.std.proofs.Common.{rules, refl, arith, ◌≡◌, ◌*◌, ◌/◌, ◌-◌, ◌%◌, ◌∷◌, [], bit_xor, slice_index, ap, ◌∙◌, map, nat_eq, true, cond}
-use Rattle.aes_core.specs.Field.{sbox}
-use Rattle.aes_core.specs.Aes.{changed_word, rot_word, x_power, xor_bytes}
+use Rattle.std.proofs.Common.{arith, ◌≡◌, ◌/◌, ◌-◌, ◌%◌, ◌∷◌, [], bit_xor}
 use Rattle.aes_core.proofs.Words.{power_entry}
 use Rattle.aes_core.proofs.schedule.changed.Goals as goal
 

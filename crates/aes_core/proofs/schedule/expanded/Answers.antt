@@ -1,9 +1,8 @@
-use Rattle.std.proofs.Common.{rules, ◌≡◌, ◌+◌, ◌*◌, ◌-◌, ◌∙◌, length, take, arith, ℕ}
-use Rattle.std.proofs.lemmas.List.{places, take_at, length-append}
+use Rattle.std.proofs.Common.{rules, ◌≡◌, ◌+◌, ◌*◌, ◌∙◌, length, arith}
+use Rattle.std.proofs.lemmas.List.{places, take_at}
 use Rattle.std.proofs.lemmas.Slice.{take-put_mid}
-use borrow.Rule.Slice.PartMut.{put_mid}
 use Rattle.aes_core.specs.Aes.{key_words}
-use Rattle.aes_core.proofs.Words.{key_words_more, length-next_word}
+use Rattle.aes_core.proofs.Words.{key_words_more}
 use Rattle.aes_core.proofs.schedule.expanded.Goals as goal
 
 pub loop-n-init : goal.loop-n-init

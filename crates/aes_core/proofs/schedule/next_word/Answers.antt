@@ -1,5 +1,5 @@
-use Rattle.std.proofs.Common.{◌*◌, ◌-◌, ap, ◌∙◌, ◌≡◌, List, ℕ, length, arith}
-use Rattle.aes_core.specs.Aes.{next_word, quad, xor_bytes, changed_word}
+use Rattle.std.proofs.Common.{◌*◌, ◌-◌, ap, arith}
+use Rattle.aes_core.specs.Aes.{next_word, quad, xor_bytes}
 use Rattle.aes_core.proofs.Words.{quad_of}
 use Rattle.aes_core.proofs.schedule.next_word.Goals as goal
 
