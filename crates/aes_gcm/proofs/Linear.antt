@@ -1,12 +1,12 @@
 -- Products of blocks are linear in both arguments, and a product with shifted v is the shifted product.
-use Rattle.std.proofs.Common.{◌≡◌, ℕ, zero, suc, ◌+◌, ◌-◌, ◌*◌, ◌/◌, ◌%◌, ◌^◌, ◌==◌, ◌<◌, ◌≤◌, bit_and, bit_xor, ◌≢◌, List, slice_index, refl, ap, sym, ◌∙◌, arith, inl, inr, ◌⊎◌}
+use Rattle.std.proofs.Common.{◌≡◌, ℕ, zero, suc, ◌+◌, ◌-◌, ◌*◌, ◌/◌, ◌%◌, ◌^◌, ◌<◌, ◌≤◌, bit_and, bit_xor, ◌≢◌, List, slice_index, refl, ap, sym, ◌∙◌, arith, inl, inr, ◌⊎◌}
 use Rattle.std.specs.Int.{bit_at}
 use Rattle.std.specs.Int.Bits.{xor_assoc, xor_self, xor_zero_l, xor_zero_r}
 use Rattle.std.proofs.Math.Nat.{two-pow-succ}
 use Rattle.std.proofs.lemmas.Bool.{cases_lt}
-use Rattle.std.proofs.lemmas.Nat.{pow_pos, xor_block, xor_comm, xor_mod, xor_shr, xor_lt, shr-shr, shr_split, and_mask}
+use Rattle.std.proofs.lemmas.Nat.{pow_pos, xor_block, xor_comm, xor_shr, shr-shr, shr_split}
 use Rattle.std.proofs.lemmas.Nat.Bits.{bit_at_lowest, bit_at_xor, bit_at-lt, bit_at_cat_low, shr_and_one}
-use Rattle.aes_gcm.specs.Ghash.{selected, shifted, product, product_steps}
+use Rattle.aes_gcm.specs.Ghash.{selected, shifted, product_steps}
 use Rattle.aes_gcm.specs.Parts.{shifts}
 
 -- the sum of two sums, by their first and their second parts

@@ -1,6 +1,6 @@
 -- Texts under a key stream, and the parts of a tag.
 use Rattle.std.proofs.Common.{◌≡◌, ℕ, zero, suc, ◌+◌, ◌-◌, ◌*◌, ◌/◌, ◌%◌, ◌<◌, ◌≤◌, List, [], ◌∷◌, ◌++◌, length, take, drop, get_or, min, replicate, bit_xor, refl, ap, sym, subst, ◌∙◌, arith}
-use Rattle.std.specs.Int.{w128, from_be_bytes, to_be_bytes}
+use Rattle.std.specs.Int.{w128, to_be_bytes}
 use Rattle.std.specs.Int.Bits.{xor_assoc, xor_self, xor_zero_r}
 use Rattle.std.proofs.lemmas.List.{append-nil, append_assoc, drop_all, drop_at, drop-drop, drop_min, length-append, length-drop, length-replicate, length-take, take_all, take_at, take_min}
 use Rattle.std.proofs.Math.Seq.{take-add}

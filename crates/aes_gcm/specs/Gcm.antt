@@ -1,5 +1,5 @@
 -- AES-256-GCM with a nonce of 96 bits and a tag of 128 (SP 800-38D, sections 6.5 and 7).
-use Rattle.std.specs.Prelude.{◌≡◌, ℕ, zero, suc, ◌+◌, ◌-◌, ◌*◌, ◌/◌, ◌%◌, ◌^◌, ◌<◌, List, [], ◌∷◌, ◌++◌, take, drop, length, replicate}
+use Rattle.std.specs.Prelude.{◌≡◌, ℕ, zero, suc, ◌+◌, ◌*◌, ◌<◌, List, [], ◌++◌, length, replicate}
 use Rattle.std.specs.List.{All}
 use Rattle.std.specs.Int.{w32, w64, w128, from_be_bytes, to_be_bytes}
 use Rattle.aes_core.specs.Aes.{cipher, xor_bytes}

@@ -1,7 +1,7 @@
 //! AES-256-GCM (NIST SP 800-38D) with a nonce of 96 bits and a tag of 128 bits, in place.
 #![tactic(auto)]
 
-ghost use Rattle.std.specs.Prelude.{◌≡◌, ℕ, List, ◌++◌, length};
+ghost use Rattle.std.specs.Prelude.{◌≡◌, ◌≤◌, ℕ, List, ◌++◌, length};
 ghost use Rattle.aes_gcm.specs.Gcm.{AreBytes, IsOnlyText, Opens, ciphertext, seal, tag};
 
 mod gcm;
@@ -22,8 +22,6 @@ pub fn one_text_each()
 
 #[cfg(test)]
 mod tests {
-    ghost use Rattle.std.specs.Prelude.{◌≤◌};
-
     use super::*;
     use std::test::Fail;
 

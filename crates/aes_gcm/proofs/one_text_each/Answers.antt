@@ -1,4 +1,4 @@
-use Rattle.std.proofs.Common.{◌≡◌, ◌++◌, ℕ, List, ap}
+use Rattle.std.proofs.Common.{◌++◌, ℕ, List, ap}
 use Rattle.aes_gcm.specs.Gcm.{tag, under_stream}
 use Rattle.aes_gcm.proofs.Streams.{only_text, opened_once}
 use Rattle.aes_gcm.proofs.one_text_each.Goals as goal

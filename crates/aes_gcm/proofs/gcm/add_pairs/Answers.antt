@@ -1,4 +1,4 @@
-use Rattle.std.proofs.Common.{◌≡◌, ◌+◌, ◌*◌, ◌/◌, ◌∙◌, ℕ, List, length, ap, refl, arith}
+use Rattle.std.proofs.Common.{◌≡◌, ◌+◌, ◌*◌, ◌/◌, ◌∙◌, ℕ, length, ap, refl, arith}
 use Rattle.aes_core.specs.Aes.{cipher}
 use Rattle.aes_gcm.specs.Gcm.{counter_block, key_stream}
 use Rattle.aes_gcm.proofs.Streams.{IsUnder-at, IsUnder-count}

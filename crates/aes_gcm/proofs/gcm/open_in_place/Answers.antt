@@ -1,4 +1,4 @@
-use Rattle.std.proofs.Common.{◌≡◌, ◌≢◌, ◌∙◌, ◌++◌, ℕ, List, ap, sym, refl, arith, rules}
+use Rattle.std.proofs.Common.{◌≡◌, ◌≢◌, ◌∙◌, ◌++◌, sym, refl, arith, rules}
 use Rattle.aes_gcm.specs.Gcm.{ciphertext, tag, under_stream}
 use Rattle.aes_gcm.proofs.Streams.{opens_tag, stream_twice}
 use Rattle.aes_gcm.proofs.gcm.open_in_place.Goals as goal

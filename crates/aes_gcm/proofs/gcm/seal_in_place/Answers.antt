@@ -1,4 +1,4 @@
-use Rattle.std.proofs.Common.{◌≡◌, ◌∙◌, ◌++◌, sym}
+use Rattle.std.proofs.Common.{◌∙◌, ◌++◌}
 use Rattle.aes_gcm.specs.Gcm.{ciphertext, tag, under_stream}
 use Rattle.aes_gcm.proofs.gcm.seal_in_place.Goals as goal
 

@@ -1,6 +1,5 @@
-use Rattle.std.proofs.Common.{◌≡◌, ℕ, ◌^◌, ◌<◌, ◌∙◌, sym, arith}
+use Rattle.std.proofs.Common.{◌≡◌, sym, arith}
 use Rattle.std.proofs.lemmas.Nat.{one_shl}
-use Rattle.aes_gcm.specs.Ghash.{product_steps}
 use Rattle.aes_gcm.proofs.Linear.{doubled, steps-none_of}
 use Rattle.aes_gcm.proofs.ghash.byte_products.Goals as goal
 

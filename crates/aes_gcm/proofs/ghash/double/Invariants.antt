@@ -1,4 +1,4 @@
-use Rattle.std.proofs.Common.{◌≡◌, ℕ, ◌+◌, ◌<◌, length, slice_index, bit_xor}
+use Rattle.std.proofs.Common.{◌≡◌, ℕ, ◌+◌, ◌<◌, slice_index, bit_xor}
 use Rattle.aes_gcm.proofs.ghash.double.Given as goal
 
 abbrev pub invariant-loop-k : goal.invariant-loop-k
