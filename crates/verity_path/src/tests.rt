@@ -4,10 +4,10 @@ ghost use Rattle.host_traits.specs.Told.{Told};
 
 use super::*;
 use host_traits::{Call, Host, HostError, Raw};
-use mg_base::{Page, Salt};
-use sha_tree::{Builder, Geometry};
-use std::process::Abort;
+use mg_base::{Page, Salt, pad_into};
+use sha_tree::{Builder, Geometry, hash_page};
 use std::alloc::Global;
+use std::process::Abort;
 use std::test::Fail;
 
 // A host that has one content, as a file with its tree, and on a disk: from sector 40 on, with the tail from another sector
@@ -235,7 +235,9 @@ fn walk_parts<R: Abort>(
     index: u64,
     buf: &mut Buffers,
 ) -> Result<bool, WalkFault> {
-    assert!(rt; index < measure.blocks && measure.blocks <= 1_048_576 && host.tail_sector < 10_000_000);
+    assert!(rt;
+        index < measure.blocks && measure.blocks <= 1_048_576 && host.tail_sector < 10_000_000
+    );
     let Some(geometry) = Geometry::new(measure.blocks) else {
         return Ok(false);
     };
@@ -281,7 +283,9 @@ fn paths_of_a_file(rt: HostRuntime) -> Result<(), Fail> {
     let expected = host.stored.get(32..64).ok_or("digest")?.to_vec(rt.alloc())?;
     let changed = host.stored.get_mut(8192).ok_or("page")?;
     *changed ^= 1;
-    let Err(WalkFault::Mismatch(mismatch)) = walk_file(&rt, &mut host, &measure, 528_384, 128, &mut buf) else {
+    let Err(WalkFault::Mismatch(mismatch)) = walk_file(
+        &rt, &mut host, &measure, 528_384, 128, &mut buf,
+    ) else {
         return Err("no mismatch")?;
     };
     assert_eq!(rt; (mismatch.level, mismatch.index), (1, 1));
@@ -307,7 +311,82 @@ fn single_blocks(rt: HostRuntime) -> Result<(), Fail> {
         assert_eq!(rt; host.calls.as_slice(), path.as_slice());
         host.size = size - 1;
         let short = walk_file(&rt, &mut host, &measure, size, 0, &mut buf);
-        assert_eq!(rt; short, Err(WalkFault::Short { asked: size, got: size - 1 }));
+        assert_eq!(rt;
+            short,
+            Err(WalkFault::Short {
+                asked: size,
+                got: size - 1
+            })
+        );
     }
+    Ok(())
+}
+
+#[test]
+fn borders_of_pages(rt: HostRuntime) -> Result<(), Fail> {
+    let mut buf = Buffers {
+        raw: Raw::new(rt.alloc())?,
+        page: Page::new(rt.alloc())?,
+    };
+    let (mut host, measure) = host_of(rt.alloc(), 67_112_960)?;
+    for index in [0u64, 127, 128, 16_383, 16_384] {
+        let found = walk_file(&rt, &mut host, &measure, 67_112_960, index, &mut buf)?;
+        assert!(rt; found, "block {index}");
+        assert_eq!(rt; host.calls.len(), 4);
+    }
+    Ok(())
+}
+
+#[test]
+fn paths_on_a_disk(rt: HostRuntime) -> Result<(), Fail> {
+    let mut buf = Buffers {
+        raw: Raw::new(rt.alloc())?,
+        page: Page::new(rt.alloc())?,
+    };
+    let (mut host, mut measure) = host_of(rt.alloc(), 1_228_800)?;
+    assert_eq!(rt; host.tail_sector, 2440);
+    for index in [0u64, 127, 128, 299] {
+        let found = walk_parts(&rt, &mut host, &measure, index, &mut buf)?;
+        assert!(rt; found, "block {index}");
+    }
+    let path = [
+        Call::BlockRead {
+            disk: 3,
+            sector: 2440,
+            count: 9,
+        },
+        Call::BlockRead {
+            disk: 3,
+            sector: 2464,
+            count: 9,
+        },
+        Call::BlockRead {
+            disk: 3,
+            sector: 2432,
+            count: 8,
+        },
+    ];
+    assert_eq!(rt; host.calls.as_slice(), path.as_slice());
+    measure.blocks = 299;
+    let found = walk_parts(&rt, &mut host, &measure, 298, &mut buf)?;
+    assert!(rt; found);
+    Ok(())
+}
+
+#[test]
+fn served_bytes(rt: HostRuntime) -> Result<(), Fail> {
+    let mut raw = Raw::new(rt.alloc())?;
+    raw.put(b"measured");
+    let mut page = Page::new(rt.alloc())?;
+    pad_into(b"measured", &mut page);
+    let anchor = Anchor::kept(Salt::none(), 0, 5, hash_page(&Salt::none(), &page));
+    let Ok(block) = check(&raw, 0, 8, &anchor, &mut page) else {
+        return Err("no block")?;
+    };
+    let mut served = Served::new(rt.alloc())?;
+    served.push(&block, 0, 4);
+    served.clear();
+    served.push(&block, 4, 9);
+    assert_eq!(rt; served.bytes(), b"ured\0".as_slice());
     Ok(())
 }
