@@ -3,3 +3,4 @@ pub mod Told
 pub mod Did
 pub mod Streams
 pub mod Folders
+pub mod Mem

@@ -6,10 +6,16 @@ pub mod answers;
 pub mod calls;
 pub mod folder;
 pub mod host;
+pub mod mem_folder;
+pub mod memory;
 pub mod streams;
+#[cfg(test)]
+mod tests;
 
 pub use crate::answers::{Answer, Raw};
 pub use crate::calls::{Call, Said, TapeItem};
 pub use crate::folder::{Folder, FolderCall, FolderError};
 pub use crate::host::{Host, HostError};
+pub use crate::mem_folder::MemFolder;
+pub use crate::memory::{MemSink, MemSource};
 pub use crate::streams::{Failed, Sink, Source};

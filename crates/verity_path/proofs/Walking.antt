@@ -135,7 +135,7 @@ module _ (layout : Layout) (m : Measure) (block count : ℕ) (same : count ≡ m
       did_so (IsOnPath layout m block) (IsOnPath layout m block) (top m.blocks - level + 1) (top m.blocks + 1) x z _ _ all (λ call f. f) (omega arith) (λ t q. q)
 
   -- a piece that is tied to a block's place is the content's
-  sound : (own : Exchanges) (p content : List ℕ) → IsPiece own p → IsDerived (IsPiece own) m 0 block (page_hash m.salt p) → HasTree m content → NoClash (IsHashed own content m.salt) →
+  pub sound : (own : Exchanges) (p content : List ℕ) → IsPiece own p → IsDerived (IsPiece own) m 0 block (page_hash m.salt p) → HasTree m content → NoClash (IsHashed own content m.salt) →
       p ≡ content_block content block
   sound own p content piece d tree apart =
       (all_sound (IsPiece own) (IsHashed own content m.salt) m content tree (omega arith) apart

@@ -3,4 +3,5 @@ pub mod Calls
 pub mod Pieces
 pub mod Steps
 pub mod Walk
+pub mod Range
 pub mod Lies

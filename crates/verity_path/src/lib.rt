@@ -2,11 +2,13 @@
 #![tactic(auto)]
 
 mod ask;
+pub mod device;
 pub mod laws;
 pub mod served;
 pub mod states;
 pub mod walk;
 
+pub use crate::device::{Cause, Device, read_range};
 pub use crate::laws::mismatches_lie;
 pub use crate::served::Served;
 pub use crate::states::{Anchor, Mismatch, Proved, check};

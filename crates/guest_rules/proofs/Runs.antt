@@ -1,0 +1,113 @@
+-- Frames answered one by one: a turn from the work that was done for it, and one turn more.
+use Rattle.std.proofs.Common.{◌≡◌, ℕ, ◌+◌, ◌^◌, ◌<◌, ◌≤◌, List, [], ◌∷◌, ◌++◌, length, refl, ap, sym, subst, ◌∙◌, Option, Some, None, append_assoc, append-nil, inl, inr, arith}
+use Rattle.std.specs.Prelude.{flat_map, ◌⊎◌}
+use Rattle.std.specs.Io.KnownBytes.{Appends}
+use Rattle.std.proofs.lemmas.List.{length-append}
+use Rattle.host_traits.specs.declared.calls.Call.{Call}
+use Rattle.host_traits.specs.Told.{Told, Exchanges, Failures, heard_more, heard_size}
+use Rattle.host_traits.specs.Did.{Trace, trace_of, trace_after, Did}
+use Rattle.host_traits.proofs.Talking.{talked_not, talked_on}
+use Rattle.session_frames.specs.Frames.{Framed}
+use Rattle.session_frames.specs.Replies.{Sent, reply_frame}
+use Rattle.session_frames.proofs.Prefixes.{appends_then}
+use Rattle.verity_path.specs.declared.device.Cause.{Cause}
+use Rattle.verity_path.specs.declared.device.Device.{Device}
+use Rattle.guest_rules.specs.Machine.{State, Moment, moment, Turn, nowhere, request_of}
+use Rattle.guest_rules.specs.Step.{IsFor, most_for, Row, Step, Stepped, WhyRefused}
+use Rattle.guest_rules.specs.Run.{Run, Ran, out_bytes, log_line, log_bytes, frame_size, frames_of}
+
+-- what the host tells of a failure, at the moments before and after
+why_refused : (old_state new_state : State) (a b : Told) (heard own : Exchanges) → Failures a b own
+    → ((b.faults ≡ a.faults) × (b.last_failed ≡ a.last_failed)) ⊎ WhyRefused (moment old_state a heard) (moment new_state b (heard ++ own))
+why_refused old_state new_state a b heard own (inl p) = inl p
+why_refused old_state new_state a b heard own (inr w) = inr (record { call = w.call; last = w.last; place = w.place; from = w.from; to = w.to; refuses = w.refuses })
+
+-- a request by the work that was done for it
+pub stepped : (items : List Device) (old_state new_state : State) (a b : Told) (frame : Framed) (sent : Sent) (cause : Option Cause) (F : Call → Type 0) (most : ℕ) (P : Trace → Type 0)
+    → Did F most a b P → ((call : Call) → F call → IsFor items (request_of frame) call) → most ≤ most_for items (request_of frame)
+    → ((heard own : Exchanges) → P (trace_of own a b) → Row items nowhere (trace_after heard own a b) (request_of frame) old_state new_state sent cause)
+    → Stepped items old_state new_state a b frame sent cause
+stepped items old_state new_state a b frame sent cause F most P d for few row = record {
+  own = d.own;
+  talked = d.talked;
+  step = λ heard is. record {
+    heard = refl;
+    counts = d.talked.faults;
+    records = d.talked.records;
+    place = d.talked.place;
+    failures = why_refused old_state new_state a b heard d.own d.talked.failures;
+    scarce = d.talked.scarce;
+    calls = λ call said i. for call (d.calls call said i);
+    few = omega (arith, d.few, few);
+    row = row heard d.own d.outcome;
+  };
+}
+
+appends_none : (a : Option (List ℕ)) → Appends a a []
+appends_none None = tt
+appends_none (Some xs) = sym (append-nil xs)
+
+flat_map-snoc : {X Y : Type 0} (f : X → List Y) (xs : List X) (x : X) → flat_map f (xs ++ x ∷ []) ≡ flat_map f xs ++ f x
+flat_map-snoc f [] x = append-nil (f x)
+flat_map-snoc f (y ∷ xs) x = ap (λ z. f y ++ z) (flat_map-snoc f xs x) ∙ sym (append_assoc (f y) (flat_map f xs) (f x))
+
+flat_map-both : {X Y : Type 0} (f : X → List Y) (xs ys : List X) → flat_map f (xs ++ ys) ≡ flat_map f xs ++ flat_map f ys
+flat_map-both f [] ys = refl
+flat_map-both f (y ∷ xs) ys = ap (λ z. f y ++ z) (flat_map-both f xs ys) ∙ sym (append_assoc (f y) (flat_map f xs) (flat_map f ys))
+
+pub frames_both : (xs ys : List Turn) → frames_of (xs ++ ys) ≡ frames_of xs ++ frames_of ys
+frames_both [] ys = refl
+frames_both (t ∷ xs) ys = ap (λ z. t.frame ∷ z) (frames_both xs ys)
+
+-- how many bytes the frames of turns have
+pub turns_size : List Turn → ℕ
+turns_size [] = 0
+turns_size (t ∷ turns) = frame_size t.frame + turns_size turns
+
+log_both : (at : ℕ) (xs ys : List Turn) → log_bytes at (xs ++ ys) ≡ log_bytes at xs ++ log_bytes (at + turns_size xs) ys
+unfolding turns_size
+log_both at [] ys = ap (λ n. log_bytes n ys) (let e : at ≡ at + 0 = omega arith in e)
+log_both at (t ∷ xs) ys =
+    let place : at + frame_size t.frame + turns_size xs ≡ at + (frame_size t.frame + turns_size xs) = omega arith in
+    ap (λ z. log_line at t.cause ++ z) (log_both (at + frame_size t.frame) xs ys ∙ ap (λ n. log_bytes (at + frame_size t.frame) xs ++ log_bytes n ys) place)
+    ∙ sym (append_assoc (log_line at t.cause) (log_bytes (at + frame_size t.frame) xs) (log_bytes (at + (frame_size t.frame + turns_size xs)) ys))
+
+run_both : (items : List Device) (old : Moment) (xs : List Turn) (mid : Moment) (ys : List Turn) (new : Moment) → Run items nowhere old xs mid → Run items nowhere mid ys new → Run items nowhere old (xs ++ ys) new
+run_both items old [] mid ys new e r = subst (λ m. Run items nowhere m ys new) (sym e) r
+run_both items old (t ∷ xs) mid ys new r s = (r.0, r.1, r.2, run_both items r.0 xs mid ys new r.3 s)
+
+heard_same : (h : Option Exchanges) (heard own : Exchanges) → h ≡ Some heard → heard_more h own ≡ Some (heard ++ own)
+heard_same h heard own e = rw e refl
+
+-- no frame yet
+pub ran_none : (items : List Device) (state : State) (a : Told) (at : ℕ) (out log : Option (List ℕ)) → Ran items state state a a at out out log log []
+ran_none items state a at out log = record { talked = talked_not a; run = λ heard is. ap (moment state a) (sym (append-nil heard)); written = appends_none out; logged = appends_none log }
+
+-- frames, and then others
+pub ran_both : (items : List Device) (r s t : State) (a b c : Told) (at : ℕ) (out_a out_b out_c log_a log_b log_c : Option (List ℕ)) (xs ys : List Turn)
+    → Ran items r s a b at out_a out_b log_a log_b xs → Ran items s t b c (at + turns_size xs) out_b out_c log_b log_c ys → Ran items r t a c at out_a out_c log_a log_c (xs ++ ys)
+ran_both items r s t a b c at out_a out_b out_c log_a log_b log_c xs ys p q = record {
+  talked = rw (flat_map-both (λ (t : Turn). t.own) xs ys) (talked_on a b c _ _ p.talked q.talked);
+  run = λ heard is.
+      let told : b.heard ≡ Some (heard ++ flat_map (λ (t : Turn). t.own) xs) = p.talked.heard ∙ heard_same a.heard heard _ is in
+      let later = q.run (heard ++ flat_map (λ (t : Turn). t.own) xs) told in
+      rw (flat_map-both (λ (t : Turn). t.own) xs ys, ← append_assoc heard (flat_map (λ (t : Turn). t.own) xs) (flat_map (λ (t : Turn). t.own) ys)) (run_both items _ xs _ ys _ (p.run heard is) later);
+  written = rw (flat_map-both (λ (t : Turn). reply_frame t.sent) xs ys) (appends_then out_a out_b out_c (out_bytes xs) (out_bytes ys) p.written q.written);
+  logged = rw (log_both at xs ys) (appends_then log_a log_b log_c (log_bytes at xs) (log_bytes (at + turns_size xs) ys) p.logged q.logged);
+}
+
+-- the turn of a frame that was answered
+abbrev pub turn_of : (items : List Device) (s t : State) (b c : Told) (frame : Framed) (sent : Sent) (cause : Option Cause) → Stepped items s t b c frame sent cause → Turn
+turn_of items s t b c frame sent cause step = record { frame = frame; own = step.own; sent = sent; cause = cause }
+
+-- one frame, its line and its reply written
+pub ran_one : (items : List Device) (s t : State) (b c : Told) (at : ℕ) (out_b out_c log_b log_c : Option (List ℕ)) (frame : Framed) (sent : Sent) (cause : Option Cause)
+    → (step : Stepped items s t b c frame sent cause) → ((heard : Exchanges) → b.heard ≡ Some heard → heard_size heard < 2 ^ 30)
+    → Appends out_b out_c (reply_frame sent) → Appends log_b log_c (log_line at cause)
+    → Ran items s t b c at out_b out_c log_b log_c (turn_of items s t b c frame sent cause step ∷ [])
+ran_one items s t b c at out_b out_c log_b log_c frame sent cause step few out log = record {
+  talked = rw (append-nil step.own) step.talked;
+  run = λ heard is. (moment t c (heard ++ step.own), few heard is, step.step heard is, rw (append-nil step.own) refl);
+  written = rw (append-nil (reply_frame sent)) out;
+  logged = rw (append-nil (log_line at cause)) log;
+}

@@ -1,0 +1,4 @@
+pub mod Machine
+pub mod ItemRow
+pub mod Step
+pub mod Run

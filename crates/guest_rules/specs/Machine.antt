@@ -1,0 +1,75 @@
+-- The machine, its requests, and a moment of a run.
+use Rattle.std.specs.Prelude.{Bool, ◌≡◌, ℕ, ◌*◌, ◌<◌, ◌≤◌, List, take, drop, slice_get, Option, Some, None, ◌==◌, if◌then◌else◌}
+use Rattle.std.specs.Int.{w32, w64, from_le_bytes}
+use Rattle.host_traits.specs.declared.calls.Call.{Call}
+use Rattle.host_traits.specs.declared.calls.TapeItem.{TapeItem}
+use Rattle.host_traits.specs.Told.{Told, Exchanges}
+use Rattle.session_frames.specs.Frames.{Framed}
+use Rattle.session_frames.specs.Replies.{Sent}
+use Rattle.verity_path.specs.Calls.{Suits}
+use Rattle.verity_path.specs.declared.device.Cause.{Cause}
+use Rattle.verity_path.specs.declared.device.Device.{Device}
+
+-- how many bytes an item has
+abbrev pub size_of : Device → ℕ
+size_of it = 4096 * it.measure.blocks
+
+-- an item has from 2 to 1,048,576 blocks, and its places are such
+pub record IsItem (it : Device) : Type 0 where
+  pub least : 2 ≤ it.measure.blocks
+  pub most : it.measure.blocks ≤ 1048576
+  pub suits : Suits it.layout it.measure.blocks
+
+abbrev pub AreItems : List Device → Type 0
+AreItems items = (k : ℕ) (it : Device) → slice_get items k ≡ Some it → IsItem it
+
+-- what the machine keeps: the bytes of entropy that are left
+pub record State : Type 0 where
+  pub entropy : List ℕ
+
+-- a read of a measured item
+pub record ItemRead : Type 0 where
+  pub item : ℕ
+  pub offset : ℕ
+  pub size : ℕ
+
+-- the item, offset and size of a payload of 16 bytes, little-endian
+abbrev pub item_read : List ℕ → ItemRead
+item_read payload = record { item = from_le_bytes w32 (take 4 payload); offset = from_le_bytes w64 (take 8 (drop 4 payload)); size = from_le_bytes w32 (take 4 (drop 12 payload)) }
+
+-- the request of a frame, by its channel
+pub data Request : Type 0 where
+  read_of : ItemRead → Request
+  unbuilt : Request
+
+abbrev pub request_of : Framed → Request
+request_of f = if f.channel == 1 then read_of (item_read f.payload) else unbuilt
+
+-- a moment of a run: the machine, and what the host has told
+pub record Moment : Type 0 where
+  pub state : State
+  pub heard : Exchanges
+  pub faults : ℕ
+  pub last_failed : Option Call
+  pub records : List TapeItem
+  pub place : ℕ
+  pub scarce : Bool
+
+-- a moment by what the host tells, where it tells what it said
+abbrev pub moment : State → Told → Exchanges → Moment
+moment state told heard = record { state = state; heard = heard; faults = told.faults; last_failed = told.last_failed; records = told.records; place = told.place; scarce = told.scarce }
+
+-- a frame, the answers to its own calls, the reply and its cause
+pub record Turn : Type 0 where
+  pub frame : Framed
+  pub own : Exchanges
+  pub sent : Sent
+  pub cause : Option Cause
+
+-- for each item its content, where there is one
+abbrev pub World : Type 0
+World = ℕ → Option (List ℕ)
+
+-- the world without contents
+abbrev pub nowhere : World
+nowhere k = None

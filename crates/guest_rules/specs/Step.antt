@@ -1,0 +1,64 @@
+-- One request of a run.
+use Rattle.std.specs.Prelude.{◌≡◌, ℕ, ◌*◌, ◌<◌, ◌≤◌, List, ◌++◌, slice_get, Option, Some, None, ◌⊎◌}
+use Rattle.host_traits.specs.declared.calls.Call.{Call}
+use Rattle.host_traits.specs.declared.calls.Said.{Said}
+use Rattle.host_traits.specs.Told.{Told, Talked, Refuses, Exchanges}
+use Rattle.host_traits.specs.Did.{IsIn, Trace, byte_answers}
+use Rattle.session_frames.specs.Frames.{Framed}
+use Rattle.session_frames.specs.Replies.{Sent}
+use Rattle.verity_path.specs.declared.device.Cause.{Cause}
+use Rattle.verity_path.specs.declared.device.Device.{Device}
+use Rattle.verity_path.specs.Range.{most_answers}
+use Rattle.guest_rules.specs.Machine.{State, ItemRead, Request, read_of, unbuilt, request_of, Moment, moment, Turn, World, nowhere, size_of}
+use Rattle.guest_rules.specs.ItemRow.{IsForItem, ItemRow}
+
+-- the calls that a request may make
+abbrev pub IsFor : List Device → Request → Call → Type 0
+IsFor items (read_of r) call = (it : Device) × (slice_get items r.item ≡ Some it) × IsForItem it r call
+IsFor items unbuilt call = ⊥
+
+-- the most answers of bytes that a request hears
+abbrev pub answers_of : Option Device → ItemRead → ℕ
+answers_of None r = 0
+answers_of (Some it) r = most_answers it.measure (size_of it) r.offset r.size
+
+abbrev pub most_for : List Device → Request → ℕ
+most_for items (read_of r) = answers_of (slice_get items r.item) r
+most_for items unbuilt = 0
+
+-- the reply, its cause and the new state of a request
+abbrev pub Row : List Device → World → Trace → Request → State → State → Sent → Option Cause → Type 0
+Row items world t (read_of r) old new sent cause = (new ≡ old) × ItemRow items world t r sent cause
+Row items world t unbuilt old new sent cause = ⊥
+
+-- the answers to a turn's own calls, after all that was heard before
+abbrev pub trace : Moment → Turn → Moment → Trace
+trace old turn new = record { heard = new.heard; own = turn.own; before = old.faults; after = new.faults; last_failed = new.last_failed; scarce = new.scarce }
+
+-- a call failed: the tape's next record was a failure or of another kind, or there was none
+pub record WhyRefused (old new : Moment) : Type 0 where
+  pub call : Call
+  pub last : new.last_failed ≡ Some call
+  pub place : ℕ
+  pub from : old.place ≤ place
+  pub to : place ≤ new.place
+  pub refuses : Refuses old.records place call
+
+-- one request, from a moment to the next
+pub record Step (items : List Device) (world : World) (old : Moment) (turn : Turn) (new : Moment) : Type 0 where
+  pub heard : new.heard ≡ old.heard ++ turn.own
+  pub counts : old.faults ≤ new.faults
+  pub records : new.records ≡ old.records
+  pub place : old.place ≤ new.place
+  pub failures : ((new.faults ≡ old.faults) × (new.last_failed ≡ old.last_failed)) ⊎ WhyRefused old new
+  pub scarce : new.scarce ≡ old.scarce
+  pub calls : (call : Call) (said : Said) → IsIn call said turn.own → IsFor items (request_of turn.frame) call
+  pub few : byte_answers turn.own ≤ most_for items (request_of turn.frame)
+  pub row : Row items world (trace old turn new) (request_of turn.frame) old.state new.state turn.sent turn.cause
+
+-- a request was answered by its own calls
+pub record Stepped (items : List Device) (old_state new_state : State) (old new : Told) (frame : Framed) (sent : Sent) (cause : Option Cause) : Type 0 where
+  pub own : Exchanges
+  pub talked : Talked old new own
+  pub step : (heard : Exchanges) → old.heard ≡ Some heard
+      → Step items nowhere (moment old_state old heard) (record { frame = frame; own = own; sent = sent; cause = cause }) (moment new_state new (heard ++ own))

@@ -1,0 +1,8 @@
+// Laws of runs.
+ghost use Rattle.guest_rules.specs.Run.{RunsStand};
+
+/// A run whose bytes are cut from pages that are tied to the roots is a run in each world that meets the premises: there each
+/// byte is the content's. Its contract is the law; it does nothing.
+pub fn runs_stand_in_each_world()
+    ensures { RunsStand }
+{}

@@ -1,0 +1,154 @@
+-- One call more on a tape.
+use Rattle.std.proofs.Common.{length-append, ◌≡◌, ℕ, ◌+◌, ◌-◌, ◌^◌, ◌<◌, ◌≤◌, min, List, [], ◌∷◌, ◌++◌, length, refl, ap, sym, ◌∙◌, append_assoc, append-nil, inl, inr, arith, Option, Some, None}
+use Rattle.std.proofs.lemmas.Option.{slice_get_within}
+use Rattle.std.specs.Prelude.{slice_get, false, true}
+use Rattle.host_traits.specs.declared.calls.Call.{Call}
+use Rattle.host_traits.specs.declared.calls.Said.{Said}
+use Rattle.host_traits.specs.declared.calls.TapeItem.{TapeItem}
+use Rattle.host_traits.specs.declared.calls.TapeItem.TheVariants.{Bytes, Done, Number, Failed}
+use Rattle.host_traits.specs.Told.{Answered, Refused, Refuses, Exchanges, answer_of, kind_of, kind_bytes, kind_number, kind_done, heard_size, said_size}
+use Rattle.host_traits.proofs.Talking.{answered, refused}
+use Rattle.host_tape.specs.Played.{Played, IsPlayed, tape_told, recited, exchange_of, failures, one_failure, last_failure, later_failure, or_else}
+
+some_is : {s r : TapeItem} → Some s ≡ Some r → s ≡ r
+some_is e = cc
+
+-- the next call takes the next record
+pub recited-next : (calls : List Call) (records : List TapeItem) (call : Call) (r : TapeItem) → slice_get records (length calls) ≡ Some r
+    → recited (calls ++ call ∷ []) records ≡ recited calls records ++ exchange_of call (answer_of (kind_of call) r)
+recited-next [] [] call r at = cc
+recited-next [] (s ∷ records) call r at = rw append-nil (ap (λ x. exchange_of call (answer_of (kind_of call) x)) (some_is at))
+recited-next (c ∷ calls) [] call r at = cc
+recited-next (c ∷ calls) (s ∷ records) call r at = rw (recited-next calls records call r at) (sym (append_assoc (exchange_of c (answer_of (kind_of c) s)) (recited calls records) (exchange_of call (answer_of (kind_of call) r))))
+
+pub failures-next : (calls : List Call) (records : List TapeItem) (call : Call) (r : TapeItem) → slice_get records (length calls) ≡ Some r
+    → failures (calls ++ call ∷ []) records ≡ failures calls records + one_failure (answer_of (kind_of call) r)
+failures-next [] [] call r at = cc
+failures-next [] (s ∷ records) call r at =
+    let e = ap (λ x. one_failure (answer_of (kind_of call) x)) (some_is at) in
+    omega (arith, e)
+failures-next (c ∷ calls) [] call r at = cc
+failures-next (c ∷ calls) (s ∷ records) call r at = omega (arith, failures-next calls records call r at)
+
+later-some : (call : Call) (said : Option Said) (c : Call) → later_failure call said (Some c) ≡ Some c
+later-some call said c = refl
+
+pub last-refused : (calls : List Call) (records : List TapeItem) (call : Call) (r : TapeItem) → slice_get records (length calls) ≡ Some r
+    → answer_of (kind_of call) r ≡ None → last_failure (calls ++ call ∷ []) records ≡ Some call
+last-refused [] [] call r at none = cc
+last-refused [] (s ∷ records) call r at none = ap (λ x. later_failure call (answer_of (kind_of call) x) None) (some_is at) ∙ ap (λ x. later_failure call x None) none
+last-refused (c ∷ calls) [] call r at none = cc
+last-refused (c ∷ calls) (s ∷ records) call r at none = ap (later_failure c (answer_of (kind_of c) s)) (last-refused calls records call r at none)
+
+pub last-answered : (calls : List Call) (records : List TapeItem) (call : Call) (r : TapeItem) (said : Said) → slice_get records (length calls) ≡ Some r
+    → answer_of (kind_of call) r ≡ Some said → last_failure (calls ++ call ∷ []) records ≡ last_failure calls records
+last-answered [] [] call r said at some = cc
+last-answered [] (s ∷ records) call r said at some = ap (λ x. later_failure call (answer_of (kind_of call) x) None) (some_is at) ∙ ap (λ x. later_failure call x None) some
+last-answered (c ∷ calls) [] call r said at some = cc
+last-answered (c ∷ calls) (s ∷ records) call r said at some = ap (later_failure c (answer_of (kind_of c) s)) (last-answered calls records call r said at some)
+
+pub heard_size-append : (a b : Exchanges) → heard_size (a ++ b) ≡ heard_size a + heard_size b
+heard_size-append [] b = omega arith
+heard_size-append (x ∷ a) b = omega (arith, heard_size-append a b)
+
+-- an answer keeps the counters, with its bytes
+pub counted-answer : (records : List TapeItem) (calls : List Call) (room count size more : ℕ) (last : Option Call) (call : Call) (r : TapeItem) (said : Said) → IsPlayed records calls room count size last
+    → slice_get records (length calls) ≡ Some r → answer_of (kind_of call) r ≡ Some said → more ≡ said_size said → IsPlayed records (calls ++ call ∷ []) room count (min (size + more) (2 ^ 64 - 1)) last
+counted-answer records calls room count size more last call r said p at some more_is =
+    let recites = recited-next calls records call r at ∙ ap (λ a. recited calls records ++ exchange_of call a) some in
+    let sizes : heard_size (recited (calls ++ call ∷ []) records) ≡ heard_size (recited calls records) + said_size said =
+    ap heard_size recites ∙ heard_size-append (recited calls records) ((call, said) ∷ []) ∙ omega arith in
+    let fails = ap one_failure some in
+    let counts = failures-next calls records call r at in
+    record {
+      fits = simp length-append (omega (arith, slice_get_within records (length calls) r at));
+      early = λ more. p.early (slice_get_within records (length calls) r at);
+      spare = p.spare;
+      refusals = omega (arith, p.refusals, counts, fails);
+      sizes = omega (arith, p.sizes, sizes, more_is);
+    }
+
+pub counted-refusal : (records : List TapeItem) (calls : List Call) (room count size : ℕ) (last : Option Call) (call : Call) (r : TapeItem) → IsPlayed records calls room count size last
+    → slice_get records (length calls) ≡ Some r → answer_of (kind_of call) r ≡ None → IsPlayed records (calls ++ call ∷ []) room (count + 1) size last
+counted-refusal records calls room count size last call r p at none =
+    let recites = recited-next calls records call r at ∙ ap (λ a. recited calls records ++ exchange_of call a) none ∙ append-nil (recited calls records) in
+    let fails = ap one_failure none in
+    let counts = failures-next calls records call r at in
+    record {
+      fits = simp length-append (omega (arith, slice_get_within records (length calls) r at));
+      early = λ more. p.early (slice_get_within records (length calls) r at);
+      spare = p.spare;
+      refusals = omega (arith, p.refusals, counts, fails);
+      sizes = p.sizes ∙ ap (λ h. min (heard_size h) (2 ^ 64 - 1)) (sym recites);
+    }
+
+-- a record that answers
+pub played-answer : (p : Played) (call : Call) (given : List ℕ) (r : TapeItem) (said : Said) → slice_get p.records (length p.calls) ≡ Some r
+    → answer_of (kind_of call) r ≡ Some said → Answered call given said (tape_told p) (tape_told (record p { calls = p.calls ++ call ∷ [] }))
+played-answer p call given r said at some =
+    let counts = failures-next p.calls p.records call r at in
+    let fails = ap one_failure some in
+    answered call given said (tape_told p) (tape_told (record p { calls = p.calls ++ call ∷ [] }))
+    (ap (λ n. min (n + p.late) (2 ^ 64 - 1)) (counts ∙ ap (λ x. failures p.calls p.records + x) fails ∙ omega arith))
+    (ap (or_else p.last_late) (last-answered p.calls p.records call r said at some))
+    (ap Some (recited-next p.calls p.records call r at ∙ ap (λ x. recited p.calls p.records ++ exchange_of call x) some))
+    refl refl (simp length-append (omega arith)) refl refl
+
+none_honest : false ≡ true → ⊥
+none_honest e = cc
+
+-- a record that refuses, where no call came after the end
+pub played-refusal : (p : Played) (call : Call) (given : List ℕ) (r : TapeItem) → p.last_late ≡ None → slice_get p.records (length p.calls) ≡ Some r → answer_of (kind_of call) r ≡ None
+    → Refused call given (tape_told p) (tape_told (record p { calls = p.calls ++ call ∷ [] }))
+played-refusal p call given r early at none =
+    let counts = failures-next p.calls p.records call r at in
+    let fails = ap one_failure none in
+    refused call given (tape_told p) (tape_told (record p { calls = p.calls ++ call ∷ [] }))
+    (omega (arith, counts, fails))
+    (omega (arith, counts, fails))
+    (ap (λ x. or_else x (last_failure (p.calls ++ call ∷ []) p.records)) early ∙ last-refused p.calls p.records call r at none)
+    (ap Some (recited-next p.calls p.records call r at ∙ ap (λ a. recited p.calls p.records ++ exchange_of call a) none ∙ append-nil (recited p.calls p.records)))
+    refl (inr (r, at, none)) (λ e. absurd (none_honest e))
+    refl (simp length-append (omega arith)) refl refl
+
+-- a call after the end
+pub played-late : (p : Played) (call : Call) (given : List ℕ) → length p.records ≤ length p.calls
+    → Refused call given (tape_told p) (tape_told (record p { late = min (p.late + 1) (2 ^ 64 - 1); last_late = Some call }))
+played-late p call given end =
+    refused call given (tape_told p) (tape_told (record p { late = min (p.late + 1) (2 ^ 64 - 1); last_late = Some call }))
+    (omega arith) (omega arith) refl refl refl (inl end) (λ e. absurd (none_honest e)) refl (omega arith) refl refl
+
+-- a refusal is by the next record, while there is one
+pub refusing : (p : Played) (call : Call) → length p.calls < length p.records → Refuses p.records (length p.calls) call
+    → (r : TapeItem) × (slice_get p.records (length p.calls) ≡ Some r) × (answer_of (kind_of call) r ≡ None)
+refusing p call lt (inl end) = absurd (omega arith)
+refusing p call lt (inr r) = r
+
+-- only bytes answer a read
+pub not_bytes : (most : ℕ) (r : TapeItem) → ((bytes : List ℕ) → r ≡ Bytes bytes → ⊥) → answer_of (kind_bytes most) r ≡ None
+not_bytes most (Bytes bytes) not = absurd (not bytes refl)
+not_bytes most Done _ = refl
+not_bytes most (Number n) _ = refl
+not_bytes most Failed _ = refl
+
+pub not_number : (r : TapeItem) → ((n : ℕ) → r ≡ Number n → ⊥) → answer_of kind_number r ≡ None
+not_number (Bytes bytes) _ = refl
+not_number Done _ = refl
+not_number (Number n) not = absurd (not n refl)
+not_number Failed _ = refl
+
+-- only a record Done answers what is only done
+pub not_done : (r : TapeItem) → (r ≡ Done → ⊥) → answer_of kind_done r ≡ None
+not_done (Bytes bytes) _ = refl
+not_done Done not = absurd (not refl)
+not_done (Number n) _ = refl
+not_done Failed _ = refl
+
+one_failure-most : (said : Option Said) → one_failure said ≤ 1
+one_failure-most None = omega arith
+one_failure-most (Some said) = omega arith
+
+pub failures-most : (calls : List Call) (records : List TapeItem) → failures calls records ≤ length calls
+failures-most [] records = omega arith
+failures-most (c ∷ calls) [] = omega arith
+failures-most (c ∷ calls) (r ∷ records) = omega (arith, failures-most calls records, one_failure-most (answer_of (kind_of c) r))

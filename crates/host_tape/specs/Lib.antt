@@ -1,0 +1,4 @@
+pub mod Tape
+pub mod Reading
+pub mod Played
+pub mod Next

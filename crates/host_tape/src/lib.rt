@@ -1,0 +1,17 @@
+//! Tapes: the answers of a host as records, read from bytes, written to bytes, and played to a guest.
+#![tactic(auto)]
+
+mod next;
+mod places;
+mod reading;
+mod tape;
+mod writing;
+
+pub use crate::places::TapeFault;
+pub use crate::reading::read_tape;
+pub use crate::tape::Tape;
+pub use crate::writing::write_tape;
+pub use host_traits::TapeItem;
+
+#[cfg(test)]
+mod tests;

@@ -1,0 +1,14 @@
+//! The frames of a session's stream, in whatever pieces it comes.
+#![tactic(auto)]
+
+mod head;
+mod laws;
+mod reply;
+mod splitter;
+#[cfg(test)]
+mod tests;
+
+pub use head::{is_head, payload_len};
+pub use laws::one_way;
+pub use reply::{ReplyFrame, write_frame};
+pub use splitter::{MOST, Next, Splitter};

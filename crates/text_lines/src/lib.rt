@@ -1,0 +1,16 @@
+//! Texts of lines: lines, their fields, and the numbers, hexadecimal digits and names in them.
+#![tactic(auto)]
+
+mod fields;
+mod kinds;
+mod lines;
+mod values;
+mod writing;
+
+pub use crate::fields::{
+    field, first_field, five_fields, four_fields, last_field, three_fields, two_fields,
+};
+pub use crate::kinds::{LineFault, Name, PlanFault, PlanKind};
+pub use crate::lines::{LineReader, read_lines};
+pub use crate::values::{folder_name_of, hex32, hex64, name_of, number_in, page_salt, part_of};
+pub use crate::writing::{put_hex, put_number, put_salt};
