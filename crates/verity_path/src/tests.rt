@@ -179,6 +179,7 @@ fn host_of(alloc: Global, size: u64) -> Result<(TestHost, Measure), Fail>
     let geometry = Geometry::new(blocks).ok_or("geometry")?;
     let mut tail = vec![in alloc; 0u8; 61]?;
     tail.extend_from_slice(&tree.stored)?;
+    tail.extend_from_slice(&[0; 451])?;
     let measure = Measure {
         blocks,
         salt: Salt::none(),
