@@ -14,3 +14,6 @@ pub use crate::served::Served;
 pub use crate::states::{Anchor, Mismatch, Proved, check};
 pub use crate::walk::{Buffers, Layout, WalkFault, walk_page};
 pub use sha_tree::Measure;
+
+#[cfg(test)]
+mod tests;
