@@ -1,0 +1,5 @@
+pub mod Pieces
+pub mod HeaderLaws
+pub mod EntryLaws
+pub mod Kept
+pub mod CopyLaws

@@ -1,0 +1,5 @@
+pub mod Entries
+pub mod Fields
+pub mod Grammar
+pub mod Header
+pub mod Rules
