@@ -3,3 +3,4 @@ pub mod HeaderLaws
 pub mod EntryLaws
 pub mod Kept
 pub mod CopyLaws
+pub mod NameLaws

@@ -5,6 +5,7 @@ mod array;
 mod faults;
 mod fields;
 mod header;
+mod names;
 mod reading;
 mod values;
 
