@@ -4,3 +4,6 @@ pub mod EntryLaws
 pub mod Kept
 pub mod CopyLaws
 pub mod NameLaws
+pub mod Joins
+pub mod ImageLaws
+pub mod Written

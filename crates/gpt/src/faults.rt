@@ -28,3 +28,11 @@ pub enum GptFault {
     Overlap { a: u32, b: u32 },
     Memory,
 }
+
+/// Why a partition table isn't written.
+#[derive(Clone, Copy, Debug, PartialEq, Eq, Drop)]
+pub enum WriteGptFault {
+    /// There are more than 128 parts.
+    TooMany { found: u64 },
+    Memory,
+}
