@@ -1,0 +1,9 @@
+pub mod Pieces
+pub mod HeaderLaws
+pub mod EntryLaws
+pub mod Kept
+pub mod CopyLaws
+pub mod NameLaws
+pub mod Joins
+pub mod ImageLaws
+pub mod Written
