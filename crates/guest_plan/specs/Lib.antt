@@ -1,0 +1,4 @@
+pub mod Items
+pub mod Plans
+pub mod Spelling
+pub mod Apks

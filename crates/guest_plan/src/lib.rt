@@ -1,0 +1,15 @@
+//! The plan, lines of text that say what the guest serves, and the store list, lines that say what
+//! its host has.
+#![tactic(auto)]
+
+mod adding;
+mod apks;
+mod items;
+mod missing;
+mod plan;
+mod reading;
+
+pub use crate::plan::{How, Plan, PlanLine};
+pub use crate::reading::read_plan;
+pub use sha_tree::Measure;
+pub use text_lines::{Name, PlanFault, PlanKind};
