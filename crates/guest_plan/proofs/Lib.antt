@@ -1,0 +1,3 @@
+pub mod Uuids
+pub mod Lacking
+pub mod Whole
