@@ -1,3 +1,4 @@
 pub mod Uuids
 pub mod Lacking
 pub mod Whole
+pub mod Written

@@ -8,8 +8,10 @@ mod items;
 mod missing;
 mod plan;
 mod reading;
+mod writing;
 
 pub use crate::plan::{How, Plan, PlanLine};
 pub use crate::reading::read_plan;
+pub use crate::writing::write_plan;
 pub use sha_tree::Measure;
 pub use text_lines::{Name, PlanFault, PlanKind};
