@@ -1,8 +1,8 @@
 -- The text of a plan, piece by piece.
 use Rattle.std.proofs.Common.{◌≡◌, ℕ, List, [], ◌∷◌, ◌++◌, map, refl, sym, ap, ◌∙◌, append_assoc}
-use Rattle.std.specs.Prelude.{codes}
+use Rattle.std.specs.Prelude.{codes, OnOk, Result, Ok, Err}
 use Rattle.std.specs.List.{flat_map}
-use Rattle.text_lines.specs.Spelling.{ended}
+use Rattle.text_lines.specs.Spelling.{ended, ◌then◌}
 use Rattle.guest_plan.specs.declared.plan.PlanLine.{PlanLine}
 use Rattle.guest_plan.specs.declared.plan.Item.{Item}
 use Rattle.guest_plan.specs.declared.plan.Item.TheVariants.{Line}
@@ -39,3 +39,11 @@ whole_text out k =
 
 pub written_is : (k : Known) → IsWritten k → IsPlan (plan_text k) k
 written_is k h = record { items = record { items = items_of k; each = h.each; few = h.few; text_is = refl; says = h.says }; complete = h.complete }
+
+apk_parts : (old d a rest : List ℕ) → (old ++ (codes "apk" then d then a)) ++ 32 ∷ rest ≡ old ++ (codes "apk" then d then a then rest)
+apk_parts old d a rest = simp append_assoc
+
+-- the disk and the first partition, and what stands behind them
+pub apk_joined : {T E : Type 0} (r : Result T E) (old mid new d a rest : List ℕ) → mid ≡ old ++ (codes "apk" then d then a) → OnOk r (new ≡ mid ++ 32 ∷ rest) → OnOk r (new ≡ old ++ (codes "apk" then d then a then rest))
+apk_joined (Ok x) old mid new d a rest first second = second ∙ ap (λ (t : List ℕ). t ++ 32 ∷ rest) first ∙ apk_parts old d a rest
+apk_joined (Err e) old mid new d a rest first second = tt

@@ -1,5 +1,5 @@
 // The text of a plan.
-ghost use Rattle.std.specs.Prelude.{◌≡◌, ◌++◌, OnOk, OnErr};
+ghost use Rattle.std.specs.Prelude.{◌≡◌, ◌∷◌, ◌++◌, OnOk, OnErr, codes};
 ghost use Rattle.std.specs.List.{flat_map};
 ghost use Rattle.guest_plan.specs.declared.plan.PlanLine.TheVariants.{Instance, Blob, Apk, File, Write, WriteDir};
 ghost use Rattle.guid_crc.specs.Guids.{guid_text};
@@ -86,6 +86,29 @@ fn put_blob(
     put_measure(alloc, out, measure)
 }
 
+fn put_apk_place(alloc: Global, out: &mut Vec<u8>, disk: u32, apk: &Name) -> Result<(), AllocError>
+    ensures { OnOk result (out.new.items ≡ out.old.items ++ (codes "apk" then decimal disk then apk.now)) }
+{
+    out.extend_from_slice(b"apk ")?;
+    put_number(alloc, out, u64::from(disk))?;
+    out.push(b' ')?;
+    out.extend_from_slice(apk.as_str().as_bytes())
+}
+
+fn put_apk_measure(
+    alloc: Global,
+    out: &mut Vec<u8>,
+    idsig: &Name,
+    how: &How,
+) -> Result<(), AllocError>
+    ensures { OnOk result (out.new.items ≡ out.old.items ++ (32 ∷ (idsig.now then how_text how.now))) }
+{
+    out.push(b' ')?;
+    out.extend_from_slice(idsig.as_str().as_bytes())?;
+    out.push(b' ')?;
+    put_how(alloc, out, how)
+}
+
 fn put_apk(
     alloc: Global,
     out: &mut Vec<u8>,
@@ -96,14 +119,8 @@ fn put_apk(
 ) -> Result<(), AllocError>
     ensures { OnOk result (out.new.items ≡ out.old.items ++ served_text (Apk disk apk.now idsig.now how.now)) }
 {
-    out.extend_from_slice(b"apk ")?;
-    put_number(alloc, out, u64::from(disk))?;
-    out.push(b' ')?;
-    out.extend_from_slice(apk.as_str().as_bytes())?;
-    out.push(b' ')?;
-    out.extend_from_slice(idsig.as_str().as_bytes())?;
-    out.push(b' ')?;
-    put_how(alloc, out, how)
+    put_apk_place(alloc, out, disk, apk)?;
+    put_apk_measure(alloc, out, idsig, how)
 }
 
 fn put_file(
