@@ -15,3 +15,6 @@ pub use crate::reading::read_plan;
 pub use crate::writing::write_plan;
 pub use sha_tree::Measure;
 pub use text_lines::{Name, PlanFault, PlanKind};
+
+#[cfg(test)]
+mod tests;

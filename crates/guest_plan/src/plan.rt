@@ -18,9 +18,15 @@ pub enum How {
 #[derive(Drop)]
 pub enum PlanLine {
     /// The instance image: a disk and a partition.
-    Instance { disk: u32, part: Name },
+    Instance {
+        disk: u32,
+        part: Name,
+    },
     /// A measured device on a file of the host.
-    Blob { file: u32, measure: Measure },
+    Blob {
+        file: u32,
+        measure: Measure,
+    },
     /// An APK device: its disk, its partition, its idsig's partition, and its measurement.
     Apk {
         disk: u32,
@@ -35,9 +41,15 @@ pub enum PlanLine {
         digest: Digest,
     },
     /// A writable file, empty at boot.
-    Write { name: Name, file: u32 },
+    Write {
+        name: Name,
+        file: u32,
+    },
     /// A writable directory, empty at boot.
-    WriteDir { name: Name, file: u32 },
+    WriteDir {
+        name: Name,
+        file: u32,
+    },
 }
 
 /// What one line of the text says.
