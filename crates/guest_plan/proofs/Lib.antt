@@ -2,3 +2,4 @@ pub mod Uuids
 pub mod Lacking
 pub mod Whole
 pub mod Written
+pub mod Stored

@@ -2,3 +2,5 @@ pub mod Items
 pub mod Plans
 pub mod Spelling
 pub mod Apks
+pub mod StoreItems
+pub mod Stores

@@ -8,10 +8,15 @@ mod items;
 mod missing;
 mod plan;
 mod reading;
+mod store;
+mod store_items;
+mod store_reading;
 mod writing;
 
 pub use crate::plan::{How, Plan, PlanLine};
 pub use crate::reading::read_plan;
+pub use crate::store::{Store, StoreLine};
+pub use crate::store_reading::read_store;
 pub use crate::writing::write_plan;
 pub use sha_tree::Measure;
 pub use text_lines::{Name, PlanFault, PlanKind};
