@@ -140,11 +140,11 @@ pub first_again : (w rest : List ℕ) → Free w → first_field (w then rest) �
 unfolding first_field
 first_again w rest h = ap (first_or (w then rest)) (cut_again 32 w rest h)
 
-field_again : (w rest : List ℕ) → Free w → field (w then rest) ≡ Ok (w, rest)
+pub field_again : (w rest : List ℕ) → Free w → field (w then rest) ≡ Ok (w, rest)
 unfolding field
 field_again w rest h = ap field_from (cut_again 32 w rest h)
 
-last_again : (x : List ℕ) → Free x → last_field x ≡ Ok x
+pub last_again : (x : List ℕ) → Free x → last_field x ≡ Ok x
 unfolding last_field
 last_again x h = ap (last_from x) (uncut_again 32 x h)
 

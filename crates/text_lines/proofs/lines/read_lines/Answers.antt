@@ -1,4 +1,4 @@
-use Rattle.std.proofs.Common.{sym, ◌∙◌, arith, subst, Err}
+use Rattle.std.proofs.Common.{sym, ◌∙◌, arith, subst}
 use Rattle.text_lines.specs.Lines.{text_of, Refuses}
 use Rattle.text_lines.proofs.Walks.{goes_on, fails_at, ends, ends_badly}
 use Rattle.text_lines.proofs.lines.read_lines.Goals as goal

@@ -1,0 +1,5 @@
+pub mod Uuids
+pub mod Lacking
+pub mod Whole
+pub mod Written
+pub mod Stored

@@ -1,0 +1,302 @@
+-- What is read as a store list is in its grammar, and what is in the grammar is read.
+use Rattle.std.proofs.Common.{◌≡◌, ◌<◌, ◌≤◌, ◌+◌, ℕ, List, [], ◌∷◌, ◌++◌, length, Bool, true, false, not, cond, ltb, eqb, Option, Some, None, Result, Ok, Err, refl, sym, ap, subst, ◌∙◌, arith, inl, inr}
+use Rattle.std.specs.Prelude.{codes, IfOk}
+use Rattle.std.specs.List.{list_all}
+use Rattle.std.specs.Str.{bytes_eq}
+use Rattle.std.specs.Fmt.{decimal}
+use Rattle.std.proofs.lemmas.List.Folds.{list_all-append}
+use Rattle.text_lines.specs.declared.kinds.PlanKind.{PlanKind}
+use Rattle.text_lines.specs.declared.kinds.PlanKind.TheVariants as kinds
+use Rattle.text_lines.specs.declared.kinds.PlanFault.{PlanFault}
+use Rattle.text_lines.specs.Fields.{◌>>=◌, first_field, two_fields, three_fields, four_fields}
+use Rattle.text_lines.specs.Values.{page_salt, folder_name_of, is_folder_name}
+use Rattle.text_lines.specs.Lines.{adds, text_of}
+use Rattle.text_lines.specs.Spelling.{◌then◌, salt_text, IsSalt, IsText}
+use Rattle.text_lines.proofs.Numbers.{bind_ok, chosen, text_is, number_takes, number_again, salt_takes, salt_again, folder_name_takes, folder_name_again}
+use Rattle.text_lines.proofs.Fielded.{Free, two_take, three_take, four_take, first_again, two_again, three_again, four_again, OneLine}
+use Rattle.text_lines.proofs.Printed.{printed, printed_free, salt_printed, decimal_printed, name_bytes_printed}
+use Rattle.text_lines.proofs.Spelled.{folder_name_printed}
+use Rattle.text_lines.proofs.Whole.{IsRead, text_takes, text_again}
+use Rattle.guest_plan.specs.Items.{host_number}
+use Rattle.guest_plan.specs.declared.store.StoreLine.{StoreLine}
+use Rattle.guest_plan.specs.declared.store.StoreLine.TheVariants as stored
+use Rattle.guest_plan.specs.declared.store.Store.{Store}
+use Rattle.guest_plan.specs.StoreItems.{disk_of, composite_of, verity_of, empty_of, dir_of, keep_disk_of, keep_file_of, keep_by, keep_of, store_line_of}
+use Rattle.guest_plan.specs.Stores.{IsStoreLine, store_text, add_store, store_missing, store_complete_by, store_completed, store_header, store_of, IsStore, TellsStore}
+
+ok_is : {A : Type 0} (x y : A) → let r : Result A PlanKind = Ok x in r ≡ Ok y → x ≡ y
+ok_is x y e = cc
+
+abbrev Is : List ℕ → StoreLine → Type 0
+Is line l = IsStoreLine l × (line ≡ store_text l)
+
+-- ---- a number and a name
+
+abbrev Named : Type 0
+Named = ℕ × List ℕ
+
+record AreNamed (n f : List ℕ) (p : Named) : Type 0 where
+  number : p.0 < 2147483648
+  name : is_folder_name p.1 ≡ true
+  spelled : (n then f) ≡ (decimal p.0 then p.1)
+
+named_take : (make : ℕ → List ℕ → StoreLine) (n f : List ℕ) (l : StoreLine) → (host_number n >>= λ k. folder_name_of f >>= λ file. Ok (make k file)) ≡ Ok l → (p : Named) × AreNamed n f p × (make p.0 p.1 ≡ l)
+named_take make n f l e =
+    let x = bind_ok (host_number n) (λ k. folder_name_of f >>= λ file. Ok (make k file)) l e in
+    let y = bind_ok (folder_name_of f) (λ file. Ok (make x.0 file)) l x.2 in
+    let number = number_takes 0 2147483648 n x.0 (omega arith) x.1 in
+    let name = folder_name_takes f y.0 y.1 in
+    (
+      (x.0, y.0),
+      record {
+        number = number.2;
+        name = name.1;
+        spelled = ap (λ (t : List ℕ). t then f) number.0 ∙ ap (λ (t : List ℕ). decimal x.0 then t) name.0;
+      },
+      ok_is (make x.0 y.0) l y.2,
+    )
+
+disk_takes : (line : List ℕ) (l : StoreLine) → first_field line ≡ codes "disk" → disk_of line ≡ Ok l → Is line l
+unfolding disk_of
+disk_takes line l word e =
+    let a = bind_ok (three_fields line) (λ f. host_number f.1 >>= λ k. folder_name_of f.2 >>= λ file. Ok (stored.Disk k file)) l e in
+    let f = a.0 in
+    let b = named_take stored.Disk f.1 f.2 l a.2 in
+    let p = b.0 in
+    let h = three_take line f a.1 in
+    subst (Is line) b.2 ((b.1.number, b.1.name), h.0 ∙ ap (λ (w : List ℕ). w then f.1 then f.2) (sym h.1 ∙ word) ∙ ap (λ (t : List ℕ). codes "disk" then t) b.1.spelled)
+
+composite_takes : (line : List ℕ) (l : StoreLine) → first_field line ≡ codes "composite" → composite_of line ≡ Ok l → Is line l
+unfolding composite_of
+composite_takes line l word e =
+    let a = bind_ok (three_fields line) (λ f. host_number f.1 >>= λ k. folder_name_of f.2 >>= λ file. Ok (stored.Composite k file)) l e in
+    let f = a.0 in
+    let b = named_take stored.Composite f.1 f.2 l a.2 in
+    let h = three_take line f a.1 in
+    subst (Is line) b.2 ((b.1.number, b.1.name), h.0 ∙ ap (λ (w : List ℕ). w then f.1 then f.2) (sym h.1 ∙ word) ∙ ap (λ (t : List ℕ). codes "composite" then t) b.1.spelled)
+
+abbrev verity : ℕ → List ℕ → List ℕ → StoreLine
+verity n file salt = stored.Verity n file salt
+
+verity_takes : (line : List ℕ) (l : StoreLine) → first_field line ≡ codes "verity" → verity_of line ≡ Ok l → Is line l
+unfolding verity_of
+verity_takes line l word e =
+    let a = bind_ok (four_fields line) (λ f. host_number f.1 >>= λ n. folder_name_of f.2 >>= λ file. page_salt f.3 >>= λ salt. Ok (verity n file salt)) l e in
+    let f = a.0 in
+    let b = bind_ok (host_number f.1) (λ n. folder_name_of f.2 >>= λ file. page_salt f.3 >>= λ salt. Ok (verity n file salt)) l a.2 in
+    let c = bind_ok (folder_name_of f.2) (λ file. page_salt f.3 >>= λ salt. Ok (verity b.0 file salt)) l b.2 in
+    let d = bind_ok (page_salt f.3) (λ salt. Ok (verity b.0 c.0 salt)) l c.2 in
+    let h = four_take line f a.1 in
+    let number = number_takes 0 2147483648 f.1 b.0 (omega arith) b.1 in
+    let name = folder_name_takes f.2 c.0 c.1 in
+    let salt = salt_takes f.3 d.0 d.1 in
+    let spelled : line ≡ store_text (verity b.0 c.0 d.0) =
+    h.0 ∙ ap (λ (w : List ℕ). w then f.1 then f.2 then f.3) (sym h.1 ∙ word)
+    ∙ ap (λ (t : List ℕ). codes "verity" then t then f.2 then f.3) number.0
+    ∙ ap (λ (t : List ℕ). codes "verity" then decimal b.0 then t then f.3) name.0
+    ∙ ap (λ (t : List ℕ). codes "verity" then decimal b.0 then c.0 then t) salt.0 in
+    subst (Is line) (ok_is (verity b.0 c.0 d.0) l d.2) ((number.2, name.1, (salt.1, salt.2)), spelled)
+
+empty_takes : (line : List ℕ) (l : StoreLine) → first_field line ≡ codes "empty" → empty_of line ≡ Ok l → Is line l
+unfolding empty_of
+empty_takes line l word e =
+    let a = bind_ok (two_fields line) (λ f. host_number f.1 >>= λ n. Ok (stored.Empty n)) l e in
+    let f = a.0 in
+    let b = bind_ok (host_number f.1) (λ n. Ok (stored.Empty n)) l a.2 in
+    let h = two_take line f a.1 in
+    let number = number_takes 0 2147483648 f.1 b.0 (omega arith) b.1 in
+    subst (Is line) (ok_is (stored.Empty b.0) l b.2) (number.2, h.0 ∙ ap (λ (w : List ℕ). w then f.1) (sym h.1 ∙ word) ∙ ap (λ (t : List ℕ). codes "empty" then t) number.0)
+
+dir_takes : (line : List ℕ) (l : StoreLine) → first_field line ≡ codes "dir" → dir_of line ≡ Ok l → Is line l
+unfolding dir_of
+dir_takes line l word e =
+    let a = bind_ok (two_fields line) (λ f. host_number f.1 >>= λ n. Ok (stored.Dir n)) l e in
+    let f = a.0 in
+    let b = bind_ok (host_number f.1) (λ n. Ok (stored.Dir n)) l a.2 in
+    let h = two_take line f a.1 in
+    let number = number_takes 0 2147483648 f.1 b.0 (omega arith) b.1 in
+    subst (Is line) (ok_is (stored.Dir b.0) l b.2) (number.2, h.0 ∙ ap (λ (w : List ℕ). w then f.1) (sym h.1 ∙ word) ∙ ap (λ (t : List ℕ). codes "dir" then t) number.0)
+
+abbrev Four : Type 0
+Four = List ℕ × List ℕ × List ℕ × List ℕ
+
+-- what the fields of a line are that keeps this
+abbrev IsKept : Four → StoreLine → Type 0
+IsKept f l = IsStoreLine l × ((codes "keep" then f.1 then f.2 then f.3) ≡ store_text l)
+
+keep_disk_takes : (f : Four) (l : StoreLine) → f.1 ≡ codes "disk" → keep_disk_of f.2 f.3 ≡ Ok l → IsKept f l
+unfolding keep_disk_of
+keep_disk_takes f l what e =
+    let b = named_take stored.KeepDisk f.2 f.3 l e in
+    subst (IsKept f) b.2 ((b.1.number, b.1.name), ap (λ (w : List ℕ). codes "keep" then w then f.2 then f.3) what ∙ ap (λ (t : List ℕ). codes "keep" then codes "disk" then t) b.1.spelled)
+
+keep_file_takes : (f : Four) (l : StoreLine) → f.1 ≡ codes "file" → keep_file_of f.2 f.3 ≡ Ok l → IsKept f l
+unfolding keep_file_of
+keep_file_takes f l what e =
+    let b = named_take stored.KeepFile f.2 f.3 l e in
+    subst (IsKept f) b.2 ((b.1.number, b.1.name), ap (λ (w : List ℕ). codes "keep" then w then f.2 then f.3) what ∙ ap (λ (t : List ℕ). codes "keep" then codes "file" then t) b.1.spelled)
+
+abbrev line_done : StoreLine → Result StoreLine PlanKind
+line_done x = Ok x
+
+keep_by_takes : (f : Four) (l : StoreLine) → keep_by f ≡ Ok l → IsKept f l
+unfolding keep_by
+keep_by_takes f l e =
+    elim (chosen (bytes_eq f.1 (codes "disk")) (keep_disk_of f.2 f.3) _ (line_done l) e) [
+      | inl h ↦ keep_disk_takes f l (text_is f.1 (codes "disk") h.0) h.1
+      | inr r1 ↦ elim (chosen (bytes_eq f.1 (codes "file")) (keep_file_of f.2 f.3) (Err kinds.Word) (line_done l) r1.1) [
+        | inl h ↦ keep_file_takes f l (text_is f.1 (codes "file") h.0) h.1
+        | inr r2 ↦ absurd (cc (r2.1))
+      ]
+    ]
+
+keep_takes : (line : List ℕ) (l : StoreLine) → first_field line ≡ codes "keep" → keep_of line ≡ Ok l → Is line l
+unfolding keep_of
+keep_takes line l word e =
+    let a = bind_ok (four_fields line) keep_by l e in
+    let f = a.0 in
+    let h = four_take line f a.1 in
+    let is = keep_by_takes f l a.2 in
+    (is.0, h.0 ∙ ap (λ (w : List ℕ). w then f.1 then f.2 then f.3) (sym h.1 ∙ word) ∙ is.1)
+
+line_takes : (line : List ℕ) (l : StoreLine) → store_line_of line ≡ Ok l → Is line l
+unfolding store_line_of
+line_takes line l e =
+    let w : List ℕ = first_field line in
+    elim (chosen (bytes_eq w (codes "disk")) (disk_of line) _ (line_done l) e) [
+      | inl h ↦ disk_takes line l (text_is w (codes "disk") h.0) h.1
+      | inr r1 ↦ elim (chosen (bytes_eq w (codes "composite")) (composite_of line) _ (line_done l) r1.1) [
+        | inl h ↦ composite_takes line l (text_is w (codes "composite") h.0) h.1
+        | inr r2 ↦ elim (chosen (bytes_eq w (codes "verity")) (verity_of line) _ (line_done l) r2.1) [
+          | inl h ↦ verity_takes line l (text_is w (codes "verity") h.0) h.1
+          | inr r3 ↦ elim (chosen (bytes_eq w (codes "empty")) (empty_of line) _ (line_done l) r3.1) [
+            | inl h ↦ empty_takes line l (text_is w (codes "empty") h.0) h.1
+            | inr r4 ↦ elim (chosen (bytes_eq w (codes "dir")) (dir_of line) _ (line_done l) r4.1) [
+              | inl h ↦ dir_takes line l (text_is w (codes "dir") h.0) h.1
+              | inr r5 ↦ elim (chosen (bytes_eq w (codes "keep")) (keep_of line) (Err kinds.Word) (line_done l) r5.1) [
+                | inl h ↦ keep_takes line l (text_is w (codes "keep") h.0) h.1
+                | inr r6 ↦ absurd (cc (r6.1))
+              ]
+            ]
+          ]
+        ]
+      ]
+    ]
+
+-- ---- what is spelled so is read
+
+free : (x : List ℕ) → printed x ≡ true → Free x
+free x h = printed_free 32 x (omega arith) h
+
+name_free : (x : List ℕ) → is_folder_name x ≡ true → printed x ≡ true
+name_free x h = name_bytes_printed x (folder_name_printed x h)
+
+number_free : (n : ℕ) → n < 2147483648 → printed (decimal n) ≡ true
+number_free n h = decimal_printed n (omega arith)
+
+disk_again : (n : ℕ) (file : List ℕ) → IsStoreLine (stored.Disk n file) → store_line_of (store_text (stored.Disk n file)) ≡ Ok (stored.Disk n file)
+unfolding store_line_of disk_of
+disk_again n file h =
+    let d : List ℕ = decimal n in
+    rw (first_again (codes "disk") (d then file) refl, three_again (codes "disk") d file refl (free d (number_free n h.0)) (free file (name_free file h.1)), number_again 0 2147483648 n (omega arith) (omega arith) h.0, folder_name_again file h.1) refl
+
+composite_again : (n : ℕ) (file : List ℕ) → IsStoreLine (stored.Composite n file) → store_line_of (store_text (stored.Composite n file)) ≡ Ok (stored.Composite n file)
+unfolding store_line_of composite_of
+composite_again n file h =
+    let d : List ℕ = decimal n in
+    rw (first_again (codes "composite") (d then file) refl, three_again (codes "composite") d file refl (free d (number_free n h.0)) (free file (name_free file h.1)), number_again 0 2147483648 n (omega arith) (omega arith) h.0, folder_name_again file h.1) refl
+
+verity_again : (n : ℕ) (file salt : List ℕ) → IsStoreLine (verity n file salt) → store_line_of (store_text (verity n file salt)) ≡ Ok (verity n file salt)
+unfolding store_line_of verity_of
+verity_again n file salt h =
+    let d : List ℕ = decimal n in
+    let s : List ℕ = salt_text salt in
+    rw (first_again (codes "verity") (d then file then s) refl, four_again (codes "verity") d file s refl (free d (number_free n h.0)) (free file (name_free file h.1)) (free s (salt_printed salt h.2.1)), number_again 0 2147483648 n (omega arith) (omega arith) h.0, folder_name_again file h.1, salt_again salt h.2.0 h.2.1) refl
+
+empty_again : (n : ℕ) → IsStoreLine (stored.Empty n) → store_line_of (store_text (stored.Empty n)) ≡ Ok (stored.Empty n)
+unfolding store_line_of empty_of
+empty_again n h =
+    let d : List ℕ = decimal n in
+    rw (first_again (codes "empty") d refl, two_again (codes "empty") d refl (free d (number_free n h)), number_again 0 2147483648 n (omega arith) (omega arith) h) refl
+
+dir_again : (n : ℕ) → IsStoreLine (stored.Dir n) → store_line_of (store_text (stored.Dir n)) ≡ Ok (stored.Dir n)
+unfolding store_line_of dir_of
+dir_again n h =
+    let d : List ℕ = decimal n in
+    rw (first_again (codes "dir") d refl, two_again (codes "dir") d refl (free d (number_free n h)), number_again 0 2147483648 n (omega arith) (omega arith) h) refl
+
+keep_disk_again : (n : ℕ) (file : List ℕ) → IsStoreLine (stored.KeepDisk n file) → store_line_of (store_text (stored.KeepDisk n file)) ≡ Ok (stored.KeepDisk n file)
+unfolding store_line_of keep_of keep_by keep_disk_of
+keep_disk_again n file h =
+    let d : List ℕ = decimal n in
+    rw (first_again (codes "keep") (codes "disk" then d then file) refl, four_again (codes "keep") (codes "disk") d file refl refl (free d (number_free n h.0)) (free file (name_free file h.1)), number_again 0 2147483648 n (omega arith) (omega arith) h.0, folder_name_again file h.1) refl
+
+keep_file_again : (n : ℕ) (file : List ℕ) → IsStoreLine (stored.KeepFile n file) → store_line_of (store_text (stored.KeepFile n file)) ≡ Ok (stored.KeepFile n file)
+unfolding store_line_of keep_of keep_by keep_file_of
+keep_file_again n file h =
+    let d : List ℕ = decimal n in
+    rw (first_again (codes "keep") (codes "file" then d then file) refl, four_again (codes "keep") (codes "file") d file refl refl (free d (number_free n h.0)) (free file (name_free file h.1)), number_again 0 2147483648 n (omega arith) (omega arith) h.0, folder_name_again file h.1) refl
+
+line_again : (l : StoreLine) → IsStoreLine l → store_line_of (store_text l) ≡ Ok l
+line_again (stored.Disk n file) h = disk_again n file h
+line_again (stored.Composite n file) h = composite_again n file h
+line_again (stored.Verity n file salt) h = verity_again n file salt h
+line_again (stored.Empty n) h = empty_again n h
+line_again (stored.Dir n) h = dir_again n h
+line_again (stored.KeepDisk n file) h = keep_disk_again n file h
+line_again (stored.KeepFile n file) h = keep_file_again n file h
+
+then_one : (a b : List ℕ) → OneLine a → OneLine b → OneLine (a then b)
+then_one a b ha hb = rw (list_all-append (λ x. not (eqb x 10)) a (32 ∷ b), ha) hb
+
+one : (x : List ℕ) → printed x ≡ true → OneLine x
+one x h = printed_free 10 x (omega arith) h
+
+named_one : (n : ℕ) (file : List ℕ) → n < 2147483648 → is_folder_name file ≡ true → OneLine (decimal n then file)
+named_one n file h k = let d : List ℕ = decimal n in then_one d file (one d (number_free n h)) (one file (name_free file k))
+
+line_one : (l : StoreLine) → IsStoreLine l → OneLine (store_text l)
+line_one (stored.Disk n file) h = then_one (codes "disk") (decimal n then file) refl (named_one n file h.0 h.1)
+line_one (stored.Composite n file) h = then_one (codes "composite") (decimal n then file) refl (named_one n file h.0 h.1)
+line_one (stored.Verity n file salt) h =
+    let d : List ℕ = decimal n in let s : List ℕ = salt_text salt in
+    then_one (codes "verity") (d then file then s) refl (then_one d (file then s) (one d (number_free n h.0)) (then_one file s (one file (name_free file h.1)) (one s (salt_printed salt h.2.1))))
+line_one (stored.Empty n) h = let d : List ℕ = decimal n in then_one (codes "empty") d refl (one d (number_free n h))
+line_one (stored.Dir n) h = let d : List ℕ = decimal n in then_one (codes "dir") d refl (one d (number_free n h))
+line_one (stored.KeepDisk n file) h = then_one (codes "keep") (codes "disk" then decimal n then file) refl (then_one (codes "disk") (decimal n then file) refl (named_one n file h.0 h.1))
+line_one (stored.KeepFile n file) h = then_one (codes "keep") (codes "file" then decimal n then file) refl (then_one (codes "file") (decimal n then file) refl (named_one n file h.0 h.1))
+
+lines_read : IsRead store_line_of IsStoreLine store_text
+lines_read = record { takes = line_takes; again = line_again; one = line_one }
+
+-- ---- the whole text
+
+abbrev Lines : Type 0
+Lines = List StoreLine
+
+abbrev Total : Type 0
+Total = Result Lines (ℕ × PlanKind)
+
+whole_is : (x y : Lines) → let r : Total = Ok x in r ≡ Ok y → x ≡ y
+whole_is x y e = cc
+
+complete_ok : (j : Lines) (o : Option ℕ) (k : Lines) → store_complete_by j o ≡ Ok k → (o ≡ None) × (j ≡ k)
+complete_ok j None k e = (refl, whole_is j k e)
+complete_ok j (Some n) k e = absurd cc
+
+completed_ok : (r : Total) (k : Lines) → store_completed r ≡ Ok k → (r ≡ Ok k) × (store_missing k ≡ None)
+completed_ok (Ok j) k e = let c = complete_ok j (store_missing j) k e in (ap (λ (x : Lines). let t : Total = Ok x in t) c.1, ap store_missing (sym c.1) ∙ c.0)
+completed_ok (Err fault) k e = absurd cc
+
+store_takes : (bytes : List ℕ) (k : Lines) → store_of bytes ≡ Ok k → IsStore bytes k
+store_takes bytes k e =
+    let c = completed_ok (text_of store_header (adds store_line_of add_store) [] bytes) k e in
+    record { items = text_takes store_header store_line_of add_store IsStoreLine store_text lines_read [] bytes k c.0; complete = c.1 }
+
+pub store_again : (bytes : List ℕ) (k : Lines) → IsStore bytes k → store_of bytes ≡ Ok k
+store_again bytes k h =
+    ap store_completed (text_again store_header store_line_of add_store IsStoreLine store_text lines_read refl [] bytes k h.items) ∙ ap (store_complete_by k) h.complete
+
+pub store_found : (bytes : List ℕ) (r : Result Store PlanFault) → TellsStore r (store_of bytes) → IfOk r (λ s. IsStore bytes s.lines.items)
+store_found bytes (Ok s) told = store_takes bytes s.lines.items told
+store_found bytes (Err f) told = tt

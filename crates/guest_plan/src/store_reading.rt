@@ -1,0 +1,272 @@
+// A store list, read from its text.
+ghost use Rattle.std.specs.Prelude.{◌≡◌, ◌+◌, ◌<◌, ◌^◌, length, List, [], MatchResult, IfOk, Ok};
+ghost use Rattle.std.specs.List.{list_any};
+ghost use Rattle.text_lines.specs.Fields.{Fails};
+ghost use Rattle.text_lines.specs.Lines.{adds};
+ghost use Rattle.guest_plan.specs.declared.store.StoreLine.{StoreLine};
+ghost use Rattle.guest_plan.specs.Plans.{same_file};
+ghost use Rattle.guest_plan.specs.StoreItems.{store_line_of};
+ghost use Rattle.guest_plan.specs.Stores.{disk_in, node_in, stored_in, kept_disk, kept_file, store_clash, serves_keep, is_keep, store_lacks, first_lacking_in, store_missing, add_store, store_of, IsStore, TellsStore};
+
+use crate::store::{Store, StoreLine};
+use crate::store_items::store_line_of;
+use std::alloc::Global;
+use std::marker::Model;
+use text_lines::{LineFault, LineReader, PlanFault, PlanKind, read_lines};
+
+fn disk_in(line: &StoreLine) -> Option<u32>
+    ensures { result ≡ disk_in line.now }
+{
+    match line {
+        StoreLine::Disk { n, .. } => Some(*n),
+        StoreLine::Composite { n, .. } => Some(*n),
+        StoreLine::Verity { .. } => None,
+        StoreLine::Empty { .. } => None,
+        StoreLine::Dir { .. } => None,
+        StoreLine::KeepDisk { .. } => None,
+        StoreLine::KeepFile { .. } => None,
+    }
+}
+
+fn node_in(line: &StoreLine) -> Option<u32>
+    ensures { result ≡ node_in line.now }
+{
+    match line {
+        StoreLine::Verity { n, .. } => Some(*n),
+        StoreLine::Empty { n } => Some(*n),
+        StoreLine::Dir { n } => Some(*n),
+        StoreLine::Disk { .. } => None,
+        StoreLine::Composite { .. } => None,
+        StoreLine::KeepDisk { .. } => None,
+        StoreLine::KeepFile { .. } => None,
+    }
+}
+
+fn stored_in(line: &StoreLine) -> Option<u32>
+    ensures { result ≡ stored_in line.now }
+{
+    match line {
+        StoreLine::Verity { n, .. } => Some(*n),
+        StoreLine::Empty { n } => Some(*n),
+        StoreLine::Dir { .. } => None,
+        StoreLine::Disk { .. } => None,
+        StoreLine::Composite { .. } => None,
+        StoreLine::KeepDisk { .. } => None,
+        StoreLine::KeepFile { .. } => None,
+    }
+}
+
+fn kept_disk(line: &StoreLine) -> Option<u32>
+    ensures { result ≡ kept_disk line.now }
+{
+    match line {
+        StoreLine::KeepDisk { n, .. } => Some(*n),
+        StoreLine::Disk { .. } => None,
+        StoreLine::Composite { .. } => None,
+        StoreLine::Verity { .. } => None,
+        StoreLine::Empty { .. } => None,
+        StoreLine::Dir { .. } => None,
+        StoreLine::KeepFile { .. } => None,
+    }
+}
+
+fn kept_file(line: &StoreLine) -> Option<u32>
+    ensures { result ≡ kept_file line.now }
+{
+    match line {
+        StoreLine::KeepFile { n, .. } => Some(*n),
+        StoreLine::Disk { .. } => None,
+        StoreLine::Composite { .. } => None,
+        StoreLine::Verity { .. } => None,
+        StoreLine::Empty { .. } => None,
+        StoreLine::Dir { .. } => None,
+        StoreLine::KeepDisk { .. } => None,
+    }
+}
+
+fn is_keep(line: &StoreLine) -> bool
+    ensures { result ≡ is_keep line.now }
+{
+    match line {
+        StoreLine::KeepDisk { .. } => true,
+        StoreLine::KeepFile { .. } => true,
+        StoreLine::Disk { .. } => false,
+        StoreLine::Composite { .. } => false,
+        StoreLine::Verity { .. } => false,
+        StoreLine::Empty { .. } => false,
+        StoreLine::Dir { .. } => false,
+    }
+}
+
+fn is_same(a: Option<u32>, b: Option<u32>) -> bool
+    ensures { result ≡ same_file a b }
+{
+    match a {
+        None => false,
+        Some(number) => match b {
+            None => false,
+            Some(other) => number == other,
+        },
+    }
+}
+
+fn store_clash(a: &StoreLine, b: &StoreLine) -> bool
+    ensures { result ≡ store_clash a.now b.now }
+{
+    if is_same(disk_in(a), disk_in(b)) {
+        return true;
+    }
+    is_same(node_in(a), node_in(b))
+}
+
+fn serves_keep(keep: &StoreLine, line: &StoreLine) -> bool
+    ensures { result ≡ serves_keep keep.now line.now }
+{
+    if is_same(kept_disk(keep), disk_in(line)) {
+        return true;
+    }
+    is_same(kept_file(keep), stored_in(line))
+}
+
+fn is_stored(line: &StoreLine, lines: &[StoreLine]) -> bool
+    ensures { result ≡ list_any (store_clash line.now) lines.now }
+{
+    for other in lines {
+        if store_clash(line, other) {
+            return true;
+        }
+    }
+    false
+}
+
+fn is_served(keep: &StoreLine, lines: &[StoreLine]) -> bool
+    ensures { result ≡ list_any (serves_keep keep.now) lines.now }
+{
+    for line in lines {
+        if serves_keep(keep, line) {
+            return true;
+        }
+    }
+    false
+}
+
+fn store_lacks(lines: &[StoreLine], line: &StoreLine) -> bool
+    ensures { result ≡ store_lacks lines.now line.now }
+{
+    if is_keep(line) {
+        return !is_served(line, lines);
+    }
+    false
+}
+
+fn store_missing(lines: &[StoreLine]) -> Option<u64>
+    requires { length lines.now < 2 ^ 63 }
+    ensures { result ≡ store_missing lines.now }
+{
+    let mut number = 2;
+    for line in lines {
+        if store_lacks(lines, line) {
+            return Some(number);
+        }
+        number += 1;
+    }
+    None
+}
+
+/// Adds a line.
+#[tactic(auto, unfolding(crate::specs::Stores::add_store))]
+fn add_store(lines: &mut Vec<StoreLine>, number: u64, line: StoreLine) -> Result<(), LineFault>
+    ensures { MatchResult result (λ _. add_store lines.old.items number line ≡ Ok lines.new.items) (λ e. Fails e (add_store lines.old.items number line)) }
+{
+    if is_stored(&line, lines) {
+        return Err(LineFault::Kind(PlanKind::Twice));
+    }
+    lines.push(line)?;
+    Ok(())
+}
+
+fn take_store_line(
+    alloc: Global,
+    lines: &mut Vec<StoreLine>,
+    number: u64,
+    line: &[u8],
+) -> Result<(), LineFault>
+    ensures { MatchResult result (λ _. adds store_line_of add_store lines.old.items number line.now ≡ Ok lines.new.items) (λ e. Fails e (adds store_line_of add_store lines.old.items number line.now)) }
+{
+    let item = store_line_of(alloc, line)?;
+    add_store(lines, number, item)
+}
+
+// The lines so far.
+#[derive(Drop)]
+struct StoreReader {
+    lines: Vec<StoreLine>,
+}
+
+impl Model for StoreReader {
+    ghost use Rattle.std.specs.Prelude.{List};
+    ghost use Rattle.guest_plan.specs.declared.store.StoreLine.{StoreLine};
+
+    ghost Value = { List StoreLine };
+
+    ghost view = { λ r. r.lines.items };
+}
+
+impl StoreReader {
+    fn new(alloc: Global) -> StoreReader
+        ensures { result ≡ [] }
+    {
+        StoreReader {
+            lines: Vec::new(alloc),
+        }
+    }
+
+    fn missing(&self) -> Option<u64>
+        ensures { result ≡ store_missing self.now }
+    {
+        store_missing(&self.lines)
+    }
+
+    fn into_store(self) -> Store
+        ensures { result.lines.items ≡ self }
+    {
+        Store { lines: self.lines }
+    }
+}
+
+impl LineReader for StoreReader {
+    ghost step = { adds store_line_of add_store };
+
+    fn take(&mut self, alloc: Global, number: u64, line: &[u8]) -> Result<(), LineFault> {
+        take_store_line(alloc, &mut self.lines, number, line)
+    }
+}
+
+fn read(alloc: Global, bytes: &[u8]) -> Result<Store, PlanFault>
+    ensures { TellsStore result (store_of bytes.now) }
+{
+    let mut reader = StoreReader::new(alloc);
+    match read_lines(alloc, b"store 1", bytes, &mut reader) {
+        Ok(()) => {}
+        Err(fault) => return Err(fault),
+    }
+    match reader.missing() {
+        Some(line) => Err(PlanFault::At {
+            line,
+            kind: PlanKind::Missing,
+        }),
+        None => Ok(reader.into_store()),
+    }
+}
+
+/// Reads a store list, all of its bytes.
+pub fn read_store(alloc: Global, bytes: &[u8]) -> Result<Store, PlanFault>
+    // What is read is in the grammar.
+    ensures found { IfOk result (λ s. IsStore bytes.now s.lines.items) }
+    // What is in the grammar is read, unless memory runs out.
+    ensures only { (lines : List StoreLine) → IsStore bytes.now lines → TellsStore result (Ok lines) }
+    // The list; or the first line that breaks a rule, and the first rule that it breaks.
+    ensures exact { TellsStore result (store_of bytes.now) }
+{
+    read(alloc, bytes)
+}
