@@ -11,7 +11,7 @@ use Rattle.session_frames.proofs.Sessions.{consumes_then, so_on}
 use Rattle.session_frames.proofs.Streams.{splits_then, splits_on, length_of_bytes, cut_has_none}
 use Rattle.verity_path.specs.declared.device.Device.{Device}
 use Rattle.guest_rules.specs.Machine.{State, Turn}
-use Rattle.guest_rules.specs.Run.{Ran, frames_of}
+use Rattle.guest_rules.specs.Run.{Runs, Ran, frames_of}
 use Rattle.guest_rules.proofs.Runs.{turns_size as turns_length, ran_both, runs_both, written_both, logged_both, frames_both}
 use Rattle.guest_cli.specs.declared.session.Stop.{Stop}
 use Rattle.guest_cli.specs.declared.session.Stop.TheVariants as stop
@@ -47,6 +47,10 @@ cut_piece room within got le =
     let first : take within (take got room) ≡ take within room = grind (arith, common_steps) in
     sym (take-append-drop within (take got room)) ∙ ap (λ (t : List ℕ). t ++ drop within (take got room)) first
 
+session_of : (items : List Device) (r s : State) (a b : Told) (in_a in_b out_a out_b log_a log_b : Option (List ℕ)) (bytes rest : List ℕ) (turns : List Turn) → Came in_a in_b (frames_of turns) bytes rest
+    → Ran items r s a b 0 out_a out_b log_a log_b turns → Session (Runs items r s a b) in_a in_b out_a out_b log_a log_b bytes rest turns
+session_of items r s a b in_a in_b out_a out_b log_a log_b bytes rest turns came ran = record { came = came; runs = ran.runs; written = ran.written; logged = ran.logged }
+
 module _ (items : List Device) (r s : State) (a b : Told) (first left out_a out_b log_a log_b : Option (List ℕ)) (h : Held) (n : ℕ) (turns : List Turn)
     (so : SoFar first left h n (frames_of turns)) (ran : Ran items r s a b 0 out_a out_b log_a log_b turns) where
   pub came_more : (left2 : Option (List ℕ)) (full front more : List ℕ) (k : Held) (later : List Turn) → Consumes left left2 full → full ≡ front ++ more → WentOver h front k (frames_of later)
@@ -66,7 +70,7 @@ module _ (items : List Device) (r s : State) (a b : Told) (first left out_a out_
   ran_more t c out_c log_c later w = ran_both items r s t a b c 0 out_a out_b out_c log_a log_b log_c turns later ran
       (subst (λ j. Ran items s t b c j out_b out_c log_b log_c later) (omega (arith, so.at, size_is turns)) w)
 
-  cut_more : (t : State) (c : Told) (out_c log_c : Option (List ℕ)) (later : List Turn) (last : Turn) → RanCut items s t b c h.at out_b out_c log_b log_c later last → RanCut items r t a c 0 out_a out_c log_a log_c (turns ++ later) last
+  cut_more : (t : State) (c : Told) (out_c log_c : Option (List ℕ)) (later : List Turn) (last : Turn) → RanCut (Runs items s t b c) h.at out_b out_c log_b log_c later last → RanCut (Runs items r t a c) 0 out_a out_c log_a log_c (turns ++ later) last
   cut_more t c out_c log_c later last w =
       let count : h.at + turns_size later ≡ 0 + turns_size (turns ++ later) = omega (arith, so.at, ap (λ (f : List Framed). length (bytes_of f)) (frames_both turns later), length_of_bytes (frames_of turns) (frames_of later)) in
       let place : h.at ≡ 0 + turns_length turns = omega (arith, so.at, size_is turns) in
@@ -84,13 +88,13 @@ module _ (items : List Device) (r s : State) (a b : Told) (first left out_a out_
 
   -- the frames that are whole with a piece were not all answered
   pub ends_stopped : (t : State) (c : Told) (left2 out_c log_c : Option (List ℕ)) (k : Held) (full piece over : List ℕ) (why : Stop) (at : ℕ) → Consumes left left2 full → full ≡ piece ++ over → at ≡ k.at
-      → PieceOutcome items s t b c out_b out_c log_b log_c h piece k (Err why) → IsSession items r t a c first left2 out_a out_c log_a log_c (Err (end_of why at))
+      → PieceOutcome items s t b c out_b out_c log_b log_c h piece k (Err why) → IsSession (Runs items r t a c) c first left2 out_a out_c log_a log_c (Err (end_of why at))
   ends_stopped t c left2 out_c log_c k full piece over stop.Bad at came parts is w =
       let cut : full ≡ w.1 ++ (w.2 ++ over) = parts ∙ ap (λ (x : List ℕ). x ++ over) w.3 ∙ append_assoc w.1 w.2 over in (
         so.bytes ++ full,
         k.held ++ (w.2 ++ over),
         turns ++ w.0,
-        record { came = came_more left2 full w.1 (w.2 ++ over) k w.0 came cut w.4.went; ran = ran_more t c out_c log_c w.0 w.4.ran },
+        session_of _ _ _ _ _ _ _ _ _ _ _ _ _ _ (came_more left2 full w.1 (w.2 ++ over) k w.0 came cut w.4.went) (ran_more t c out_c log_c w.0 w.4.ran),
         is ∙ size_more w.1 k w.0 w.4.went,
         inl (none_on k.held (w.2 ++ over) w.5),
       )
@@ -99,7 +103,7 @@ module _ (items : List Device) (r s : State) (a b : Told) (first left out_a out_
         so.bytes ++ full,
         k.held ++ (w.2 ++ over),
         turns ++ w.0,
-        record { came = came_more left2 full w.1 (w.2 ++ over) k w.0 came cut w.4.went; ran = ran_more t c out_c log_c w.0 w.4.ran },
+        session_of _ _ _ _ _ _ _ _ _ _ _ _ _ _ (came_more left2 full w.1 (w.2 ++ over) k w.0 came cut w.4.went) (ran_more t c out_c log_c w.0 w.4.ran),
         inl (w.5.0, whole_on k.held (w.2 ++ over) w.5.1),
       )
   ends_stopped t c left2 out_c log_c k full piece over stop.Unbuilt at came parts is w =
@@ -107,7 +111,7 @@ module _ (items : List Device) (r s : State) (a b : Told) (first left out_a out_
         so.bytes ++ full,
         k.held ++ (w.2 ++ over),
         turns ++ w.0,
-        record { came = came_more left2 full w.1 (w.2 ++ over) k w.0 came cut w.4.went; ran = ran_more t c out_c log_c w.0 w.4.ran },
+        session_of _ _ _ _ _ _ _ _ _ _ _ _ _ _ (came_more left2 full w.1 (w.2 ++ over) k w.0 came cut w.4.went) (ran_more t c out_c log_c w.0 w.4.ran),
         is ∙ size_more w.1 k w.0 w.4.went,
         unbuilt_on k.held (w.2 ++ over) w.5,
       )
@@ -125,7 +129,7 @@ module _ (items : List Device) (r s : State) (a b : Told) (first left out_a out_
   -- more came than a session reads
   pub ends_past : (t : State) (c : Told) (left2 out_c log_c : Option (List ℕ)) (k : Held) (full piece over : List ℕ) (later : List Turn) → Consumes left left2 full → full ≡ piece ++ over → 0 < length over → n + length piece ≡ limit
       → AnsweredOver items s t b c out_b out_c log_b log_c h piece k later → IsCutOff k.held
-      → (bytes : List ℕ) × (rest : List ℕ) × (all : List Turn) × Session items r t a c first left2 out_a out_c log_a log_c bytes rest all × IsMuch c bytes rest all
+      → (bytes : List ℕ) × (rest : List ℕ) × (all : List Turn) × Session (Runs items r t a c) first left2 out_a out_c log_a log_c bytes rest all × IsMuch c bytes rest all
   ends_past t c left2 out_c log_c k full piece over later came parts some count w cut =
       let read : length (so.bytes ++ piece) ≡ limit = omega (arith, so.total_is, length-append so.bytes piece, count) in
       let all : so.bytes ++ full ≡ (so.bytes ++ piece) ++ over = ap (λ (x : List ℕ). so.bytes ++ x) parts ∙ sym (append_assoc so.bytes piece over) in
@@ -133,7 +137,7 @@ module _ (items : List Device) (r s : State) (a b : Told) (first left out_a out_
         so.bytes ++ full,
         k.held ++ over,
         turns ++ later,
-        record { came = came_more left2 full piece over k later came parts w.went; ran = ran_more t c out_c log_c later w.ran },
+        session_of _ _ _ _ _ _ _ _ _ _ _ _ _ _ (came_more left2 full piece over k later came parts w.went) (ran_more t c out_c log_c later w.ran),
         inr (record {
           many = omega (arith, ap length all, length-append (so.bytes ++ piece) over, read, some);
           within = k.held;
@@ -144,7 +148,7 @@ module _ (items : List Device) (r s : State) (a b : Told) (first left out_a out_
 
   -- the same where the items are equal
   pub ends_stopped_by : (i : List Device) (t : State) (c : Told) (left2 out_c log_c : Option (List ℕ)) (k : Held) (full piece over : List ℕ) (why : Stop) (at : ℕ) → i ≡ items → Consumes left left2 full → full ≡ piece ++ over → at ≡ k.at
-      → PieceOutcome i s t b c out_b out_c log_b log_c h piece k (Err why) → IsSession items r t a c first left2 out_a out_c log_a log_c (Err (end_of why at))
+      → PieceOutcome i s t b c out_b out_c log_b log_c h piece k (Err why) → IsSession (Runs items r t a c) c first left2 out_a out_c log_a log_c (Err (end_of why at))
   ends_stopped_by i t c left2 out_c log_c k full piece over why at e came parts is w =
       ends_stopped t c left2 out_c log_c k full piece over why at came parts is (subst (λ (j : List Device). PieceOutcome j s t b c out_b out_c log_b log_c h piece k (Err why)) e w)
 

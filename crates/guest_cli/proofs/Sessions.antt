@@ -15,7 +15,7 @@ use Rattle.verity_path.specs.declared.device.Cause.{Cause}
 use Rattle.verity_path.specs.declared.device.Device.{Device}
 use Rattle.guest_rules.specs.Machine.{State, Turn, moment, nowhere}
 use Rattle.guest_rules.specs.Step.{Stepped}
-use Rattle.guest_rules.specs.Run.{Run, Ran, frames_of, out_bytes, log_bytes, log_line, frame_size}
+use Rattle.guest_rules.specs.Run.{Runs, Ran, frames_of, out_bytes, log_bytes, log_line, frame_size}
 use Rattle.guest_rules.proofs.Runs.{turns_size, turn_of, ran_none, ran_one, ran_both, frames_both, runs_both, runs_one, written_both, logged_both}
 use Rattle.guest_cli.specs.Turns.{Taken, read_frame}
 use Rattle.guest_cli.specs.Session.{Answered, AnsweredOver, RanCut, HeardMuch, limit, HeldOutcome, PieceOutcome}
@@ -61,7 +61,7 @@ module _ (items : List Device) (r s : State) (a b : Told) (out_a out_b log_a log
   -- one frame more, its line or reply written in part
   pub held_cut : (t : State) (c : Told) (out_c log_c : Option (List ℕ)) (payload : List ℕ) → ((heard : Exchanges) → b.heard ≡ Some heard → heard_size heard < 2 ^ 30)
       → (w : Taken items s t b c (read_frame payload) (λ sent cause. ((out_c ≡ out_b) × SomePrefix log_b log_c (log_line m.at cause)) ⊎ (SomePrefix out_b out_c (reply_frame sent) × Appends log_b log_c (log_line m.at cause))))
-      → RanCut items r t a c o.at out_a out_c log_a log_c turns (turn_of items s t b c (read_frame payload) w.sent w.cause w.step)
+      → RanCut (Runs items r t a c) o.at out_a out_c log_a log_c turns (turn_of items s t b c (read_frame payload) w.sent w.cause w.step)
   held_cut t c out_c log_c payload few w = record {
     runs = runs_both items r s t a b c turns _ so.ran.runs (runs_one items s t b c (read_frame payload) w.sent w.cause w.step few);
     out_mid = out_b;
@@ -90,8 +90,8 @@ module _ (items : List Device) (r s : State) (a b : Told) (out_a out_b log_a log
     ran = ran_both items r s t a b c o.at out_a out_b out_c log_a log_b log_c turns later so.ran (subst (λ j. Ran items s t b c j out_b out_c log_b log_c later) over_place w.ran);
   }
 
-  pub over_cut : (t : State) (c : Told) (out_c log_c : Option (List ℕ)) (later : List Turn) (last : Turn) → RanCut items s t b c k.at out_b out_c log_b log_c later last
-      → RanCut items r t a c o.at out_a out_c log_a log_c (turns ++ later) last
+  pub over_cut : (t : State) (c : Told) (out_c log_c : Option (List ℕ)) (later : List Turn) (last : Turn) → RanCut (Runs items s t b c) k.at out_b out_c log_b log_c later last
+      → RanCut (Runs items r t a c) o.at out_a out_c log_a log_c (turns ++ later) last
   over_cut t c out_c log_c later last w =
       let count : k.at + length (bytes_of (frames_of later)) ≡ o.at + length (bytes_of (frames_of (turns ++ later))) = omega (arith, same, so.went.at, ap (λ (f : List Framed). length (bytes_of f)) (frames_both turns later), length_of_bytes (frames_of turns) (frames_of later)) in
       record {

@@ -27,8 +27,9 @@ abbrev pub HeardMuch : Told → Type 0
 HeardMuch told = (heard : Exchanges) → told.heard ≡ Some heard → limit ≤ heard_size heard
 
 -- Frames were answered in these turns and then in a last one, whose line or reply went out in part: all else was written.
-pub record RanCut (items : List Device) (old_state new_state : State) (old new : Told) (at : ℕ) (out_old out_new log_old log_new : Option (List ℕ)) (turns : List Turn) (last : Turn) : Type 0 where
-  pub runs : Runs items old_state new_state old new (turns ++ last ∷ [])
+-- R says what the turns are.
+pub record RanCut (R : List Turn → Type 0) (at : ℕ) (out_old out_new log_old log_new : Option (List ℕ)) (turns : List Turn) (last : Turn) : Type 0 where
+  pub runs : R (turns ++ last ∷ [])
   pub out_mid : Option (List ℕ)
   pub written : Appends out_old out_mid (out_bytes turns)
   pub log_mid : Option (List ℕ)
@@ -76,21 +77,24 @@ WhyStopped stop.Write told held = ⊥
 -- what came of the frames at the front of what is held
 abbrev pub HeldOutcome : List Device → State → State → Told → Told → Option (List ℕ) → Option (List ℕ) → Option (List ℕ) → Option (List ℕ) → Held → Held → Result (Unit {0}) Stop → Type 0
 HeldOutcome items r s a b out_a out_b log_a log_b o n (Ok _) = (turns : List Turn) × Answered items r s a b out_a out_b log_a log_b o n turns × IsCutOff n.held
-HeldOutcome items r s a b out_a out_b log_a log_b o n (Err stop.Write) = (turns : List Turn) × (last : Turn) × Went o n (frames_of turns) × IsFront n.held last × RanCut items r s a b o.at out_a out_b log_a log_b turns last
+HeldOutcome items r s a b out_a out_b log_a log_b o n (Err stop.Write) = (turns : List Turn) × (last : Turn) × Went o n (frames_of turns) × IsFront n.held last × RanCut (Runs items r s a b) o.at out_a out_b log_a log_b turns last
 HeldOutcome items r s a b out_a out_b log_a log_b o n (Err why) = (turns : List Turn) × Answered items r s a b out_a out_b log_a log_b o n turns × WhyStopped why b n.held
 
 -- what came of the frames that are whole with a piece
 abbrev pub PieceOutcome : List Device → State → State → Told → Told → Option (List ℕ) → Option (List ℕ) → Option (List ℕ) → Option (List ℕ) → Held → List ℕ → Held → Result (Unit {0}) Stop → Type 0
 PieceOutcome items r s a b out_a out_b log_a log_b o piece n (Ok _) = (turns : List Turn) × AnsweredOver items r s a b out_a out_b log_a log_b o piece n turns × IsCutOff n.held
 PieceOutcome items r s a b out_a out_b log_a log_b o piece n (Err stop.Write) = (turns : List Turn) × (last : Turn) × (front : List ℕ) × (left : List ℕ) × (piece ≡ front ++ left)
-    × WentOver o front n (frames_of turns) × IsFront n.held last × RanCut items r s a b o.at out_a out_b log_a log_b turns last
+    × WentOver o front n (frames_of turns) × IsFront n.held last × RanCut (Runs items r s a b) o.at out_a out_b log_a log_b turns last
 PieceOutcome items r s a b out_a out_b log_a log_b o piece n (Err why) = (turns : List Turn) × (front : List ℕ) × (left : List ℕ) × (piece ≡ front ++ left)
     × AnsweredOver items r s a b out_a out_b log_a log_b o front n turns × WhyStopped why b n.held
 
--- A session: of the bytes that came, these frames were answered in these turns, and the rest was not.
-pub record Session (items : List Device) (old_state new_state : State) (old new : Told) (left_old left_new out_old out_new log_old log_new : Option (List ℕ)) (bytes rest : List ℕ) (turns : List Turn) : Type 0 where
+-- A session: of the bytes that came, these frames were answered in these turns, and the rest was not; the replies and the
+-- lines of the log were written and nothing else. R says what the turns are.
+pub record Session (R : List Turn → Type 0) (left_old left_new out_old out_new log_old log_new : Option (List ℕ)) (bytes rest : List ℕ) (turns : List Turn) : Type 0 where
   pub came : Came left_old left_new (frames_of turns) bytes rest
-  pub ran : Ran items old_state new_state old new 0 out_old out_new log_old log_new turns
+  pub runs : R turns
+  pub written : Appends out_old out_new (out_bytes turns)
+  pub logged : Appends log_old log_new (log_bytes 0 turns)
 
 -- no frame begins with the rest, or the input ends inside one
 abbrev pub IsBad : Option (List ℕ) → List ℕ → Type 0
@@ -108,14 +112,14 @@ IsMuch told bytes rest turns = (HeardMuch told × IsWhole rest) ⊎ IsPastLimit 
 
 -- A session that ended so. Ok: the input was read to its end, at a frame's border. Read: all frames that are whole in what came
 -- were answered. BadFrame and Unbuilt: all frames before this offset. Write: the last turn's line or reply went out in part.
-abbrev pub IsSession : List Device → State → State → Told → Told → Option (List ℕ) → Option (List ℕ) → Option (List ℕ) → Option (List ℕ) → Option (List ℕ) → Option (List ℕ) → Result (Unit {0}) SessionEnd → Type 0
-IsSession items r s a b in_a in_b out_a out_b log_a log_b (Ok _) = (bytes : List ℕ) × (turns : List Turn) × Session items r s a b in_a in_b out_a out_b log_a log_b bytes [] turns × IsAtEnd in_b
-IsSession items r s a b in_a in_b out_a out_b log_a log_b (Err Read) = (bytes : List ℕ) × (rest : List ℕ) × (turns : List Turn) × Session items r s a b in_a in_b out_a out_b log_a log_b bytes rest turns × NoFrameIn rest
-IsSession items r s a b in_a in_b out_a out_b log_a log_b (Err (BadFrame at)) = (bytes : List ℕ) × (rest : List ℕ) × (turns : List Turn) × Session items r s a b in_a in_b out_a out_b log_a log_b bytes rest turns × (at ≡ turns_size turns) × IsBad in_b rest
-IsSession items r s a b in_a in_b out_a out_b log_a log_b (Err TooMuch) = (bytes : List ℕ) × (rest : List ℕ) × (turns : List Turn) × Session items r s a b in_a in_b out_a out_b log_a log_b bytes rest turns × IsMuch b bytes rest turns
-IsSession items r s a b in_a in_b out_a out_b log_a log_b (Err (Unbuilt at)) = (bytes : List ℕ) × (rest : List ℕ) × (turns : List Turn) × Session items r s a b in_a in_b out_a out_b log_a log_b bytes rest turns × (at ≡ turns_size turns) × IsUnbuilt rest
-IsSession items r s a b in_a in_b out_a out_b log_a log_b (Err Write) = (bytes : List ℕ) × (rest : List ℕ) × (turns : List Turn) × (last : Turn)
-    × Came in_a in_b (frames_of turns) bytes rest × IsFront rest last × RanCut items r s a b 0 out_a out_b log_a log_b turns last
+abbrev pub IsSession : (List Turn → Type 0) → Told → Option (List ℕ) → Option (List ℕ) → Option (List ℕ) → Option (List ℕ) → Option (List ℕ) → Option (List ℕ) → Result (Unit {0}) SessionEnd → Type 0
+IsSession R b in_a in_b out_a out_b log_a log_b (Ok _) = (bytes : List ℕ) × (turns : List Turn) × Session R in_a in_b out_a out_b log_a log_b bytes [] turns × IsAtEnd in_b
+IsSession R b in_a in_b out_a out_b log_a log_b (Err Read) = (bytes : List ℕ) × (rest : List ℕ) × (turns : List Turn) × Session R in_a in_b out_a out_b log_a log_b bytes rest turns × NoFrameIn rest
+IsSession R b in_a in_b out_a out_b log_a log_b (Err (BadFrame at)) = (bytes : List ℕ) × (rest : List ℕ) × (turns : List Turn) × Session R in_a in_b out_a out_b log_a log_b bytes rest turns × (at ≡ turns_size turns) × IsBad in_b rest
+IsSession R b in_a in_b out_a out_b log_a log_b (Err TooMuch) = (bytes : List ℕ) × (rest : List ℕ) × (turns : List Turn) × Session R in_a in_b out_a out_b log_a log_b bytes rest turns × IsMuch b bytes rest turns
+IsSession R b in_a in_b out_a out_b log_a log_b (Err (Unbuilt at)) = (bytes : List ℕ) × (rest : List ℕ) × (turns : List Turn) × Session R in_a in_b out_a out_b log_a log_b bytes rest turns × (at ≡ turns_size turns) × IsUnbuilt rest
+IsSession R b in_a in_b out_a out_b log_a log_b (Err Write) = (bytes : List ℕ) × (rest : List ℕ) × (turns : List Turn) × (last : Turn)
+    × Came in_a in_b (frames_of turns) bytes rest × IsFront rest last × RanCut R 0 out_a out_b log_a log_b turns last
 
 -- what a stop at this offset ends a session with
 abbrev pub end_of : Stop → ℕ → SessionEnd

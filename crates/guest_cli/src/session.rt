@@ -3,6 +3,7 @@ ghost use Rattle.std.specs.Prelude.{◌≡◌, ◌≤◌, ◌<◌, ◌+◌, ◌^
 ghost use Rattle.host_traits.specs.Told.{Rose};
 ghost use Rattle.session_frames.specs.Frames.{Fronts, IsCutOff};
 ghost use Rattle.guest_rules.specs.Machine.{Turn};
+ghost use Rattle.guest_rules.specs.Run.{Runs};
 ghost use Rattle.guest_cli.specs.Turns.{TurnOutcome};
 ghost use Rattle.guest_cli.specs.Session.{HeldOutcome, PieceOutcome, IsSession, end_of};
 
@@ -154,7 +155,7 @@ pub fn session<H: Host, S: Source, K: Sink, L: Sink>(
 ) -> Result<(), SessionEnd>
     requires { splitter.old ≡ record { held = []; at = 0 } }
     ensures items { engine.new.items ≡ engine.old.items }
-    ensures run { IsSession engine.old.items engine.old.state engine.new.state (H.told host.old) (H.told host.new) (S.left input.old) (S.left input.new) (K.holds out.old) (K.holds out.new) (L.holds log.old) (L.holds log.new) result }
+    ensures run { IsSession (Runs engine.old.items engine.old.state engine.new.state (H.told host.old) (H.told host.new)) (H.told host.new) (S.left input.old) (S.left input.new) (K.holds out.old) (K.holds out.new) (L.holds log.old) (L.holds log.new) result }
     ensures read { result ≡ Err SessionEnd.Read → Rose (S.faults input.old) (S.faults input.new) }
     ensures write { result ≡ Err SessionEnd.Write → Rose (K.faults out.old) (K.faults out.new) ⊎ Rose (L.faults log.old) (L.faults log.new) }
     ensures out { K.faults out.old ≤ K.faults out.new }
