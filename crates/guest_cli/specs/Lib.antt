@@ -1,3 +1,5 @@
 pub mod Works
 pub mod Turns
 pub mod Session
+pub mod Planned
+pub mod Booted

@@ -1,6 +1,7 @@
 //! The guest: boot, the work of a frame, the session over a stream, and the top call with its words and statuses.
 #![tactic(auto)]
 
+pub mod boot;
 pub mod engine;
 pub mod entropy;
 pub mod log;

@@ -1,0 +1,8 @@
+-- Plan lines that are in the grammar.
+use Rattle.std.specs.Prelude.{◌≡◌, ℕ, List, slice_get, Some}
+use Rattle.std.specs.List.{AllByRecursion}
+use Rattle.guest_plan.specs.declared.plan.PlanLine.{PlanLine}
+use Rattle.guest_plan.specs.Spelling.{IsServed}
+
+abbrev pub AreServed : List PlanLine → Type 0
+AreServed lines = AllByRecursion IsServed lines
