@@ -3,3 +3,8 @@ pub mod Turns
 pub mod Session
 pub mod Planned
 pub mod Booted
+pub mod Statuses
+pub mod Words
+pub mod Asked
+pub mod Replay
+pub mod Loads

@@ -4,8 +4,12 @@
 pub mod boot;
 pub mod engine;
 pub mod entropy;
+pub mod files;
+pub mod guest;
 pub mod log;
 pub mod session;
+pub mod status;
+pub mod words;
 
 pub use crate::engine::{Engine, FrameAnswer, answer_frame};
 pub use crate::entropy::Entropy;
