@@ -1,0 +1,59 @@
+-- A session over a tape is a run in each world.
+use Rattle.std.proofs.Common.{◌≡◌, ◌+◌, ◌-◌, ◌^◌, min, ℕ, List, [], refl, ap, sym, subst, ◌∙◌, Option, Some, None, Result, Ok, Err}
+use Rattle.std.specs.Prelude.{flat_map}
+use Rattle.host_traits.specs.declared.calls.TapeItem.{TapeItem}
+use Rattle.host_traits.specs.Told.{Told, Exchanges}
+use Rattle.host_tape.specs.Played.{Played, unplayed, tape_told, recited, failures}
+use Rattle.verity_path.specs.declared.device.Device.{Device}
+use Rattle.guest_rules.specs.Machine.{State, Turn, moment}
+use Rattle.guest_rules.specs.Run.{Runs}
+use Rattle.guest_rules.proofs.Standing.{runs_stand}
+use Rattle.guest_cli.specs.declared.session.SessionEnd.{SessionEnd}
+use Rattle.guest_cli.specs.declared.session.SessionEnd.TheVariants.{Read, Write, BadFrame, TooMuch, Unbuilt}
+use Rattle.guest_cli.specs.Session.{Session, RanCut, IsSession}
+use Rattle.guest_cli.specs.Replay.{Replayed, start}
+
+some_same : (x y : Exchanges) → Some x ≡ Some y → x ≡ y
+some_same x y e = cc
+
+pub replayed : (items : List Device) (entropy : List ℕ) (records : List TapeItem) (t : State) (q : Played) (turns : List Turn) → Runs items (record { entropy = entropy }) t (tape_told (unplayed records)) (tape_told q) turns → Replayed items entropy records turns
+replayed items entropy records t q turns runs =
+    let own : List _ = flat_map (λ (t : Turn). t.own) turns in
+    let heard : own ≡ recited q.calls records = sym (some_same (recited q.calls q.records) own runs.talked.heard) ∙ ap (recited q.calls) runs.talked.records in
+    record {
+      calls = q.calls;
+      finish = moment t (tape_told q) own;
+      heard = heard;
+      own = heard;
+      used = refl;
+      late = q.late;
+      faults = ap (λ rs. min (failures q.calls rs + q.late) (2 ^ 64 - 1)) runs.talked.records;
+      run = λ world w. runs_stand items world (start entropy records) turns (moment t (tape_told q) own) w (runs.run [] refl);
+    }
+
+session_with : (P Q : List Turn → Type 0) → ((turns : List Turn) → P turns → Q turns) → (in_a in_b out_a out_b log_a log_b : Option (List ℕ)) (bytes rest : List ℕ) (turns : List Turn) → Session P in_a in_b out_a out_b log_a log_b bytes rest turns → Session Q in_a in_b out_a out_b log_a log_b bytes rest turns
+session_with P Q so in_a in_b out_a out_b log_a log_b bytes rest turns s = record { came = s.came; runs = so turns s.runs; written = s.written; logged = s.logged }
+
+-- the same with less known of what ran
+pub session_so : (P Q : List Turn → Type 0) → ((turns : List Turn) → P turns → Q turns) → (told : Told) (in_a in_b out_a out_b log_a log_b : Option (List ℕ)) (r : Result (Unit {0}) SessionEnd) → IsSession P told in_a in_b out_a out_b log_a log_b r → IsSession Q told in_a in_b out_a out_b log_a log_b r
+session_so P Q so told in_a in_b out_a out_b log_a log_b (Ok u) d = (d.0, d.1, session_with P Q so in_a in_b out_a out_b log_a log_b d.0 [] d.1 d.2, d.3)
+session_so P Q so told in_a in_b out_a out_b log_a log_b (Err Read) d = (d.0, d.1, d.2, session_with P Q so in_a in_b out_a out_b log_a log_b d.0 d.1 d.2 d.3, d.4)
+session_so P Q so told in_a in_b out_a out_b log_a log_b (Err (BadFrame at)) d = (d.0, d.1, d.2, session_with P Q so in_a in_b out_a out_b log_a log_b d.0 d.1 d.2 d.3, d.4, d.5)
+session_so P Q so told in_a in_b out_a out_b log_a log_b (Err TooMuch) d = (d.0, d.1, d.2, session_with P Q so in_a in_b out_a out_b log_a log_b d.0 d.1 d.2 d.3, d.4)
+session_so P Q so told in_a in_b out_a out_b log_a log_b (Err (Unbuilt at)) d = (d.0, d.1, d.2, session_with P Q so in_a in_b out_a out_b log_a log_b d.0 d.1 d.2 d.3, d.4, d.5)
+session_so P Q so told in_a in_b out_a out_b log_a log_b (Err Write) d = (
+  d.0,
+  d.1,
+  d.2,
+  d.3,
+  d.4,
+  d.5,
+  record { runs = so _ d.6.runs; out_mid = d.6.out_mid; written = d.6.written; log_mid = d.6.log_mid; logged = d.6.logged; part = d.6.part },
+)
+
+-- the session over a tape from which no call took a record yet
+pub tape_session : (items : List Device) (entropy : List ℕ) (tape : Played) (t : State) (q : Played) (in_a in_b out_a out_b log_a log_b : Option (List ℕ)) (r : Result (Unit {0}) SessionEnd) → tape ≡ unplayed tape.records
+    → IsSession (Runs items (record { entropy = entropy }) t (tape_told tape) (tape_told q)) (tape_told q) in_a in_b out_a out_b log_a log_b r
+    → IsSession (Replayed items entropy tape.records) (tape_told q) in_a in_b out_a out_b log_a log_b r
+tape_session items entropy tape t q in_a in_b out_a out_b log_a log_b r fresh d =
+    session_so _ _ (λ turns runs. replayed items entropy tape.records t q turns (subst (λ (p : Played). Runs items (record { entropy = entropy }) t (tape_told p) (tape_told q) turns) fresh runs)) (tape_told q) in_a in_b out_a out_b log_a log_b r d
