@@ -1,8 +1,8 @@
 -- The reader on lists and the grammar are one.
-use Rattle.std.proofs.Common.{◌≡◌, ◌⊎◌, inl, inr, ℕ, ◌+◌, ◌-◌, ◌*◌, ◌<◌, ◌≤◌, Bool, true, false, not, ◌&&◌, true≢false, eqb, ltb, List, [], ◌∷◌, ◌++◌, All, length, take, drop, Option, Some, None, Result, Ok, Err, refl, sym, ap, subst, ◌∙◌, arith, if◌then◌else◌}
+use Rattle.std.proofs.Common.{◌≡◌, ◌⊎◌, inl, inr, ℕ, ◌-◌, ◌*◌, ◌<◌, ◌≤◌, Bool, true, false, true≢false, eqb, List, [], ◌∷◌, All, length, take, Option, Some, None, Result, Ok, Err, refl, sym, ap, subst, ◌∙◌, arith, if◌then◌else◌}
 use Rattle.std.specs.Prelude.{IfOk}
 use Rattle.std.specs.List.{AllByRecursion, AllPairs}
-use Rattle.std.proofs.lemmas.Bool.{eqb-true, ltb-true, lt-ltb}
+use Rattle.std.proofs.lemmas.Bool.{eqb-true}
 use Rattle.std.proofs.lemmas.Bool.Decides.{nat_tests}
 use Rattle.guid_crc.specs.Remainder.{crc32}
 use Rattle.gpt.specs.declared.faults.GptFault.{GptFault}
@@ -11,11 +11,13 @@ use Rattle.gpt.specs.declared.header.Header.{Header}
 use Rattle.gpt.specs.declared.header.Side.{Side}
 use Rattle.gpt.specs.declared.values.Entry.{Entry}
 use Rattle.gpt.specs.declared.values.Table.{Table}
-use Rattle.gpt.specs.Fields.{part_at, StandsAt}
-use Rattle.gpt.specs.Header.{IsHeader, header_text, header_crc, header_of, blanked, signature}
-use Rattle.gpt.specs.Entries.{IsEntry, array_text, entries_of, share, first_outside, first_overlap}
-use Rattle.gpt.specs.Rules.{primary, alternate, must, ◌then◌, header_fault, outside_fault, overlap_fault, entries_fault, array_fault, header_bytes, array_bytes, answer, table_of, copy_with, copy_of, first_good, is_sized, gpt_of, IsSide}
+use Rattle.gpt.specs.Fields.{part_at}
+use Rattle.gpt.specs.Header.{IsHeader, header_text, header_of, blanked}
+use Rattle.gpt.specs.Entries.{array_text, entries_of}
+use Rattle.gpt.specs.Rules.{primary, alternate, must, ◌then◌, outside_fault, overlap_fault, entries_fault, array_fault, header_bytes, array_bytes, answer, table_of, copy_with, copy_of, first_good, is_sized, gpt_of, IsSide}
 use Rattle.gpt.specs.Grammar.{IsInPlace, UsedIsWithin, IsCopy, IsGpt}
+use Rattle.gpt.specs.Names.{UsedIsBounded}
+use Rattle.std.proofs.lemmas.List.Elements.{All-from_recursion}
 use Rattle.gpt.proofs.Pieces.{IsByte, part_length, part_bytes}
 use Rattle.gpt.proofs.HeaderLaws.{header_text-length, blanked-text, signature-text, header_of-text, header_of-fits, text-header_of}
 use Rattle.gpt.proofs.EntryLaws.{array_text-length, entries_of-text, entries_of-length, text-entries_of, entries_of-fits}
@@ -219,3 +221,22 @@ pub found_is : (head tail : List ℕ) (n : ℕ) (r : Result Table GptFault) → 
     → All IsByte head → All IsByte tail → r ≡ gpt_of head tail n → IfOk r (λ t. IsGpt head tail n t)
 found_is head tail n (Ok t) hl tl hb tb e = found_gpt head tail n t hl tl hb tb (sym e)
 found_is head tail n (Err f) hl tl hb tb e = tt
+
+-- ---- the used entries have sectors, and end below 2^40
+
+bounded : (from to : ℕ) (es : List Entry) → to < 1099511627776 → AllByRecursion (UsedIsWithin from to) es → AllByRecursion UsedIsBounded es
+bounded from to [] lt all = tt
+bounded from to (e ∷ es) lt all =
+    ((λ used. let w = all.0 used in let last = w.last in record { order = w.order; last = omega arith }), bounded from to es lt all.1)
+
+copy_bounded : (s : Side) (b : List ℕ) (t : Table) → s.sectors ≤ 1099511627776 → IsCopy s b t → All UsedIsBounded t.entries
+copy_bounded s b t few k =
+    let last = k.place.last in
+    All-from_recursion UsedIsBounded t.entries (bounded k.header.first_usable k.header.last_usable t.entries (omega arith) k.within)
+
+pub bounded_is : (head tail : List ℕ) (n : ℕ) (r : Result Table GptFault) → IfOk r (λ t. IsGpt head tail n t) → IfOk r (λ t. All UsedIsBounded t.entries)
+bounded_is head tail n (Err f) g = tt
+bounded_is head tail n (Ok t) g = elim g.copy [
+  | inl x ↦ copy_bounded (primary n) head t g.most x
+  | inr x ↦ copy_bounded (alternate n) tail t g.most x.1
+]

@@ -1,8 +1,8 @@
 -- An entry's bytes give its fields, and its fields give the bytes; and so with arrays of entries.
-use Rattle.std.proofs.Common.{◌≡◌, ℕ, zero, suc, ◌+◌, ◌*◌, ◌^◌, ◌<◌, ◌≤◌, List, [], ◌∷◌, ◌++◌, All, length, take, drop, refl, sym, ap, ◌∙◌, arith, append-nil, append_assoc, ◌-◌}
+use Rattle.std.proofs.Common.{◌≡◌, ℕ, zero, suc, ◌+◌, ◌*◌, ◌<◌, ◌≤◌, List, [], ◌∷◌, ◌++◌, All, length, take, drop, refl, sym, ap, ◌∙◌, arith, append-nil, append_assoc, ◌-◌}
 use Rattle.std.specs.Int.{w64, from_le_bytes}
 use Rattle.std.specs.List.{AllByRecursion}
-use Rattle.std.proofs.lemmas.List.{take_at, drop_at, take_all, drop-drop, drop_all, length-append, length-take, length-drop, take-append-drop}
+use Rattle.std.proofs.lemmas.List.{take_at, drop_at, take_all, drop-drop, length-append, length-take, length-drop, take-append-drop}
 use Rattle.std.proofs.lemmas.List.Elements.{All-take, All-drop}
 use Rattle.std.proofs.lemmas.Nat.{from_le_bytes-to_le_bytes_8}
 use Rattle.guid_crc.specs.Guids.{disk_form, Guid}
@@ -11,7 +11,7 @@ use Rattle.gpt.specs.declared.values.Entry.{Entry}
 use Rattle.gpt.specs.Fields.{part_at, u64_at, guid_at}
 use Rattle.gpt.specs.Header.{le64}
 use Rattle.gpt.specs.Entries.{IsEntry, entry_text, array_text, entry_of, entries_of}
-use Rattle.gpt.proofs.Pieces.{IsByte, u64_at-fits, guid_at-fits, disk_form-length, part_length, part_bytes, cut, cut64, cut_guid}
+use Rattle.gpt.proofs.Pieces.{IsByte, u64_at-fits, guid_at-fits, disk_form-length, part_length, part_bytes, cut64, cut_guid}
 
 -- the fields behind the two GUIDs
 end : Entry → List ℕ

@@ -1,6 +1,5 @@
 -- What is written, piece by piece.
-use Rattle.std.proofs.Common.{◌≡◌, ℕ, zero, suc, ◌+◌, ◌-◌, ◌*◌, ◌<◌, ◌≤◌, List, [], ◌∷◌, ◌++◌, length, get_or, drop, take, replicate, refl, sym, ap, ◌∙◌, arith, append_assoc, append-nil, zero-add, suc-add}
-use Rattle.std.specs.List.{flat_map}
+use Rattle.std.proofs.Common.{◌≡◌, ℕ, zero, suc, ◌+◌, ◌-◌, ◌*◌, ◌<◌, ◌≤◌, List, [], ◌∷◌, ◌++◌, length, get_or, drop, replicate, refl, sym, ap, ◌∙◌, arith, append_assoc, append-nil}
 use Rattle.std.proofs.lemmas.List.{at_drop_more, at_drop_all, replicate-append-replicate, length-replicate}
 use Rattle.guid_crc.specs.Guids.{Guid}
 use Rattle.guid_crc.specs.Remainder.{crc32}
@@ -94,3 +93,8 @@ tail_is sum crc tail array p q disk ps es ea ec eq ep et =
     let code = ec ∙ ap crc32 ea in
     let header : p ≡ alternate_header disk ps = ep ∙ ap sealed (eq ∙ (λ i. plain_header (es i + 79) 1 (es i + 47) disk (es i) (code i))) in
     et ∙ (λ i. tail_with (header i) (ea i))
+
+pub taken-replicate : (n : ℕ) (p : Part) → taken (replicate n p) ≡ n * p.sectors
+unfolding taken
+taken-replicate zero p = omega arith
+taken-replicate (suc n) p = omega (arith, taken-replicate n p)

@@ -1,7 +1,7 @@
 -- What it means that no rule is broken.
-use Rattle.std.proofs.Common.{◌≡◌, ◌≢◌, ◌⊎◌, inl, inr, ℕ, zero, suc, ◌+◌, ◌-◌, ◌*◌, ◌<◌, ◌≤◌, Bool, true, false, not, ◌&&◌, ◌||◌, true≢false, eqb, ltb, List, [], ◌∷◌, ◌++◌, All, length, get_or, take, Option, Some, None, refl, sym, ap, subst, ◌∙◌, arith, append_assoc, append-nil, if◌then◌else◌}
+use Rattle.std.proofs.Common.{◌≡◌, ℕ, zero, suc, ◌+◌, ◌-◌, ◌*◌, ◌<◌, Bool, true, false, not, ◌&&◌, ◌||◌, true≢false, eqb, ltb, List, [], ◌∷◌, ◌++◌, length, get_or, take, Option, Some, None, refl, sym, ap, subst, ◌∙◌, arith, append_assoc, append-nil, if◌then◌else◌}
 use Rattle.std.specs.List.{AllByRecursion, AllPairs}
-use Rattle.std.proofs.lemmas.Bool.{eqb-true, ltb-true, lt-ltb, cases_lt}
+use Rattle.std.proofs.lemmas.Bool.{eqb-true, ltb-true, lt-ltb}
 use Rattle.std.proofs.lemmas.Bool.Decides.{nat_tests}
 use Rattle.std.proofs.lemmas.List.{length-append, get_or_append_left, get_or-append_right}
 use Rattle.std.proofs.lemmas.List.Quantifiers.{all_pairs_push}
@@ -15,7 +15,7 @@ use Rattle.std.proofs.lemmas.Slice.Eq.{bytes_eq-Decides}
 use Rattle.guid_crc.specs.Remainder.{crc32}
 use Rattle.gpt.specs.Header.{header_of, blanked, signature}
 use Rattle.gpt.specs.Rules.{must, ◌then◌, is_in_place, header_fault}
-use Rattle.gpt.specs.Grammar.{IsInPlace, IsWithin, UsedIsWithin}
+use Rattle.gpt.specs.Grammar.{IsInPlace, UsedIsWithin}
 
 pub then_none : (x y : Option GptFault) → (x then y) ≡ None → (x ≡ None) × (y ≡ None)
 then_none None y e = (refl, e)

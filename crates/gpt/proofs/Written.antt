@@ -1,10 +1,8 @@
 -- What is written is in the grammar.
 use Rattle.std.proofs.Common.{◌≡◌, ◌⊎◌, inl, inr, ℕ, zero, suc, ◌+◌, ◌-◌, ◌*◌, ◌/◌, ◌%◌, ◌^◌, ◌<◌, ◌≤◌, Bool, true, false, not, ◌&&◌, true≢false, eqb, ltb, List, [], ◌∷◌, ◌++◌, All, length, take, drop, replicate, get_or, bit_xor, min, lit<, lit≤, refl, sym, ap, subst, ◌∙◌, arith, append_assoc, if◌then◌else◌}
 use Rattle.std.specs.List.{AllByRecursion, AllPairs}
-use Rattle.std.specs.Int.Bits.{xor_zero_r}
 use Rattle.std.proofs.lemmas.Bool.{lt-ltb}
-use Rattle.std.proofs.lemmas.Bool.Decides.{nat_tests}
-use Rattle.std.proofs.lemmas.List.{take_at, drop_at, drop-drop, length-append, length-replicate}
+use Rattle.std.proofs.lemmas.List.{take_at, drop_at, length-append, length-replicate}
 use Rattle.std.proofs.lemmas.List.Elements.{All-from_recursion, All-replicate, All-head, All-tail}
 use Rattle.std.proofs.lemmas.List.Kept.{AllPairs-cons}
 use Rattle.std.proofs.lemmas.Nat.{xor_lt}
@@ -14,12 +12,12 @@ use Rattle.gpt.specs.declared.header.Header.{Header}
 use Rattle.gpt.specs.declared.header.Side.{Side}
 use Rattle.gpt.specs.declared.image.Part.{Part}
 use Rattle.gpt.specs.declared.values.Entry.{Entry}
-use Rattle.gpt.specs.Fields.{part_at, StandsAt}
-use Rattle.gpt.specs.Header.{IsHeader, header_text, header_crc, le32}
-use Rattle.gpt.specs.Entries.{IsEntry, entry_text, array_text, is_used, share}
+use Rattle.gpt.specs.Fields.{StandsAt}
+use Rattle.gpt.specs.Header.{IsHeader, header_text}
+use Rattle.gpt.specs.Entries.{IsEntry, array_text, is_used}
 use Rattle.gpt.specs.Rules.{primary, alternate}
-use Rattle.gpt.specs.Grammar.{IsInPlace, UsedIsWithin, IsCopy, IsGpt}
-use Rattle.gpt.specs.Image.{zeros, linux, unused, entry_for, placed, taken, all_entries, written, total, plain_header, sealed, header_for, primary_header, alternate_header, mbr_record, mbr_with, mbr, header_sector, head_with, tail_with, head_bytes, tail_bytes, HasSectors}
+use Rattle.gpt.specs.Grammar.{UsedIsWithin, IsCopy, IsGpt}
+use Rattle.gpt.specs.Image.{zeros, linux, unused, entry_for, placed, taken, all_entries, written, total, plain_header, header_for, primary_header, alternate_header, mbr_record, mbr_with, mbr, header_sector, head_with, tail_with, head_bytes, tail_bytes, HasSectors}
 use Rattle.gpt.proofs.Pieces.{IsByte}
 use Rattle.gpt.proofs.HeaderLaws.{header_text-length}
 use Rattle.gpt.proofs.EntryLaws.{array_text-length}

@@ -1,5 +1,5 @@
 -- Fields of records, and pieces at their places.
-use Rattle.std.specs.Prelude.{◌≡◌, ℕ, ◌+◌, List, take, drop, length}
+use Rattle.std.specs.Prelude.{◌≡◌, ℕ, List, take, drop, length}
 use Rattle.std.specs.Int.{w32, w64, from_le_bytes}
 use Rattle.guid_crc.specs.Guids.{Guid, disk_form}
 

@@ -1,5 +1,5 @@
 -- The header's bytes (UEFI 2.10, table 5.5).
-use Rattle.std.specs.Prelude.{◌≡◌, ◌<◌, ◌^◌, ℕ, ◌+◌, List, ◌++◌, take, drop, length, replicate, codes}
+use Rattle.std.specs.Prelude.{◌<◌, ◌^◌, ℕ, List, ◌++◌, take, drop, replicate, codes}
 use Rattle.std.specs.Int.{w32, w64, to_le_bytes}
 use Rattle.guid_crc.specs.Guids.{disk_form, IsGuid}
 use Rattle.guid_crc.specs.Remainder.{crc32}

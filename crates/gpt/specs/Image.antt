@@ -1,5 +1,5 @@
 -- What is written: a disk of partitions one behind the other (UEFI 2.10, sections 5.2.3 and 5.3).
-use Rattle.std.specs.Prelude.{◌≡◌, ◌≤◌, ◌<◌, ℕ, ◌+◌, ◌-◌, ◌*◌, min, List, [], ◌∷◌, ◌++◌, length, replicate, All}
+use Rattle.std.specs.Prelude.{◌≤◌, ℕ, ◌+◌, ◌-◌, min, List, [], ◌∷◌, ◌++◌, length, replicate}
 use Rattle.guid_crc.specs.Guids.{Guid}
 use Rattle.guid_crc.specs.Remainder.{crc32}
 use Rattle.gpt.specs.declared.header.Header.{Header}

@@ -9,6 +9,8 @@ mod image;
 mod names;
 mod putting;
 mod reading;
+#[cfg(test)]
+mod tests;
 mod values;
 mod writing;
 

@@ -1,7 +1,8 @@
 // Reading a partition table from the two ends of a disk.
-ghost use Rattle.std.specs.Prelude.{◌≡◌, ◌≤◌, ◌+◌, ◌*◌, ◌⊎◌, ◌^◌, length, IfOk, Ok, Err};
+ghost use Rattle.std.specs.Prelude.{◌≡◌, ◌≤◌, ◌+◌, ◌*◌, ◌⊎◌, ◌^◌, All, length, IfOk, Ok, Err};
 ghost use Rattle.gpt.specs.Rules.{IsSide, primary, alternate, header_bytes, array_bytes, entries_fault, copy_of, first_good, gpt_of};
 ghost use Rattle.gpt.specs.Grammar.{IsGpt};
+ghost use Rattle.gpt.specs.Names.{UsedIsBounded};
 ghost use Rattle.gpt.specs.declared.values.Table.{Table};
 ghost use Rattle.gpt.specs.declared.faults.GptFault.TheVariants as faults;
 
@@ -145,6 +146,8 @@ pub fn read_gpt(alloc: Global, head: &[u8], tail: &[u8], sectors: u64) -> Result
     requires tail { 80 ≤ sectors → sectors ≤ 1099511627776 → length tail.now ≡ 20480 }
     // What is read is in the grammar.
     ensures found { IfOk result (λ t. IsGpt head.now tail.now sectors t) }
+    // Its used entries have sectors, as finding one by its name needs.
+    ensures bounded { IfOk result (λ t. All UsedIsBounded t.entries) }
     // What is in the grammar is read, unless memory runs out.
     ensures only { (t : Table) → IsGpt head.now tail.now sectors t → (result ≡ Ok t) ⊎ (result ≡ Err faults.Memory) }
     // The answer is that of the rules in their order, unless memory runs out.

@@ -1,4 +1,4 @@
-use Rattle.std.proofs.Common.{◌*◌, ◌-◌, ◌+◌, arith}
+use Rattle.std.proofs.Common.{arith}
 use Rattle.gpt.specs.Entries.{entries_of}
 use Rattle.gpt.proofs.EntryLaws.{entry_more, entries_done}
 use Rattle.gpt.proofs.array.entries_of.Goals as goal

@@ -1,4 +1,4 @@
-use Rattle.std.proofs.Common.{◌≡◌, ◌*◌, ◌+◌, ◌-◌, ◌++◌, drop}
+use Rattle.std.proofs.Common.{◌≡◌, ◌*◌, ◌-◌, ◌++◌, drop}
 use Rattle.gpt.specs.Entries.{entries_of}
 use Rattle.gpt.proofs.array.entries_of.Given as goal
 

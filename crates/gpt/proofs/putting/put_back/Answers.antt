@@ -1,7 +1,5 @@
-use Rattle.std.proofs.Common.{◌++◌}
-use Rattle.std.specs.Prelude.{codes}
-use Rattle.gpt.specs.Header.{le32, le64, signature}
-use Rattle.gpt.specs.Runs.{header_front, header_places, header_back}
+use Rattle.gpt.specs.Header.{le32, le64}
+use Rattle.gpt.specs.Runs.{header_back}
 use Rattle.guid_crc.specs.Guids.{disk_form}
 use Rattle.gpt.proofs.Joins.{weaker, joined5}
 use Rattle.gpt.proofs.putting.put_back.Goals as goal

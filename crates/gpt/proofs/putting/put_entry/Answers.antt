@@ -1,6 +1,4 @@
-use Rattle.std.proofs.Common.{◌++◌}
-use Rattle.std.specs.Prelude.{codes}
-use Rattle.gpt.specs.Header.{le32, le64, signature}
+use Rattle.gpt.specs.Header.{le64}
 use Rattle.guid_crc.specs.Guids.{disk_form}
 use Rattle.gpt.specs.Entries.{entry_text, IsEntry}
 use Rattle.std.proofs.Common.{◌≡◌, length, arith, rules}

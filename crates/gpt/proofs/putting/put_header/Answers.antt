@@ -1,5 +1,3 @@
-use Rattle.std.proofs.Common.{◌++◌}
-use Rattle.std.specs.Prelude.{codes}
 use Rattle.gpt.specs.Runs.{header_front, header_places, header_back}
 use Rattle.gpt.specs.Header.{header_text}
 use Rattle.gpt.proofs.Joins.{weaker, joined3}

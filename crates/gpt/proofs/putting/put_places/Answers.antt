@@ -1,7 +1,5 @@
-use Rattle.std.proofs.Common.{◌++◌}
-use Rattle.std.specs.Prelude.{codes}
-use Rattle.gpt.specs.Header.{le32, le64, signature}
-use Rattle.gpt.specs.Runs.{header_front, header_places, header_back}
+use Rattle.gpt.specs.Header.{le64}
+use Rattle.gpt.specs.Runs.{header_places}
 use Rattle.gpt.proofs.Joins.{weaker, joined4}
 use Rattle.gpt.proofs.putting.put_places.Goals as goal
 

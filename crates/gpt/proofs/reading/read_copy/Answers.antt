@@ -1,8 +1,6 @@
-use Rattle.std.proofs.Common.{◌≡◌, None, ap, sym, length, ◌∙◌, arith}
-use Rattle.gpt.specs.Rules.{header_fault, header_bytes}
-use Rattle.gpt.specs.Header.{header_of}
+use Rattle.std.proofs.Common.{ap, sym, length, ◌∙◌, arith}
 use Rattle.gpt.proofs.EntryLaws.{entries_of-length}
-use Rattle.gpt.proofs.Kept.{KeepsHeader, keeps_header}
+use Rattle.gpt.proofs.Kept.{keeps_header}
 use Rattle.gpt.proofs.reading.read_copy.Goals as goal
 
 pub array_bytes-array-requires-clause-low : goal.array_bytes-array-requires-clause-low

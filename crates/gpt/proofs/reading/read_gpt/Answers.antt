@@ -1,7 +1,7 @@
-use Rattle.std.proofs.Common.{◌≡◌, ◌<◌, ℕ, All, get_or, inl, sym, ◌∙◌, arith, rules}
+use Rattle.std.proofs.Common.{◌<◌, ℕ, All, get_or, inl, ◌∙◌, arith, rules}
 use Rattle.std.proofs.lemmas.List.Elements.{All-from_get_or}
 use Rattle.gpt.proofs.Pieces.{IsByte}
-use Rattle.gpt.proofs.CopyLaws.{gpt_of-sized, found_is, gpt_only}
+use Rattle.gpt.proofs.CopyLaws.{gpt_of-sized, found_is, bounded_is, gpt_only}
 use Rattle.gpt.proofs.reading.read_gpt.Goals as goal
 
 pub returns-in-Ok-clause-found : goal.returns-in-Ok-clause-found
@@ -19,3 +19,7 @@ returns-in-Ok-clause-only c =
     let head : All IsByte c.args.head.now = All-from_get_or IsByte c.args.head.now 0 (λ i lt. head_at i) in
     λ t g. inl (c.in-Ok.ensures ∙ gpt_of-sized c.args.head.now c.args.tail.now c.args.sectors (omega arith) (omega arith)
     ∙ gpt_only c.args.head.now c.args.tail.now c.args.sectors t c.requires.head head g)
+
+pub returns-in-Ok-clause-bounded : goal.returns-in-Ok-clause-bounded
+returns-in-Ok-clause-bounded c =
+    bounded_is c.args.head.now c.args.tail.now c.args.sectors c.in-Ok.answer (returns-in-Ok-clause-found c)

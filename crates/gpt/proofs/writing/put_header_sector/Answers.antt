@@ -1,4 +1,3 @@
-use Rattle.std.proofs.Common.{◌++◌, ◌∷◌, [], ◌-◌, min}
 use Rattle.gpt.specs.Header.{header_text}
 use Rattle.gpt.specs.Image.{zeros}
 use Rattle.gpt.proofs.Joins.{weaker, joined2}

@@ -1,9 +1,6 @@
-use Rattle.std.proofs.Common.{◌≡◌, ◌<◌, ◌≤◌, List, ℕ, length, get_or, subst, sym, arith, rules}
+use Rattle.std.proofs.Common.{◌≡◌, ◌<◌, ℕ, length, get_or, arith, rules}
 use Rattle.std.proofs.lemmas.List.Elements.{All-from_get_or}
 use Rattle.guid_crc.specs.Guids.{IsGuid}
-use Rattle.gpt.specs.Rules.{primary, alternate}
-use Rattle.gpt.specs.Grammar.{IsCopy, IsGpt}
-use Rattle.gpt.specs.Image.{written}
 use Rattle.gpt.proofs.Pieces.{IsByte}
 use Rattle.gpt.proofs.Written.{primary_written, alternate_written, all_written}
 use Rattle.gpt.proofs.writing.write_gpt.Goals as goal
