@@ -1,12 +1,12 @@
 -- What pieces tie to the root of a content's tree is the content's.
-use Rattle.std.proofs.Common.{◌≡◌, ℕ, zero, suc, ◌+◌, ◌-◌, ◌*◌, ◌/◌, ◌%◌, ◌<◌, ◌≤◌, List, ◌++◌, length, refl, ap, sym, ◌∙◌, subst, arith}
+use Rattle.std.proofs.Common.{◌≡◌, ℕ, zero, suc, ◌+◌, ◌*◌, ◌/◌, ◌%◌, ◌<◌, ◌≤◌, List, length, refl, ap, sym, ◌∙◌, arith}
 use Rattle.std.specs.Prelude.{◌≢◌}
 use Rattle.std.proofs.lemmas.List.{append_cancel_left}
 use Rattle.sha_tree.specs.declared.measure.Measure.{Measure}
 use Rattle.sha_tree.specs.Tree.{block, block_count, hash_input, padded_salt, page, page_hash, pages_at, slot, top}
 use Rattle.sha_tree.specs.Measured.{IsMeasured, HasTree}
 use Rattle.sha_tree.specs.Path.{IsTied, IsDerived, IsInput, NoClash, AreOf}
-use Rattle.sha_tree.proofs.Levels.{pages_at-low, pages_at-top}
+use Rattle.sha_tree.proofs.Levels.{pages_at-top}
 use Rattle.sha_tree.proofs.Pages.{slot-page, root-some}
 
 -- a device's content has the measure's tree

@@ -1,4 +1,5 @@
-//! Hash trees over pages of 4096 bytes.
+//! Hash trees over pages of 4096 bytes, with SHA-256, as fs-verity defines them (Linux kernel documentation of
+//! fs-verity, "Merkle tree").
 #![tactic(auto)]
 
 ghost use Rattle.std.specs.Prelude.{◌≡◌, ℕ, ◌+◌, ◌-◌, ◌*◌, ◌≤◌, ◌<◌, ◌↔◌, List, length, take, drop, ◌++◌, replicate, IfSome, IsSome};
@@ -37,7 +38,8 @@ pub(crate) fn salted(salt: &Salt) -> Sha256
     hasher
 }
 
-/// The hash of a page: the padded salt and the page's bytes.
+/// The hash of a page: SHA-256 (FIPS 180-4) of the salt, padded with zeros to a multiple of 64 bytes, and of the page's
+/// 4096 bytes. No salt adds nothing. It takes no memory.
 pub fn hash_page(salt: &Salt, page: &Page) -> Digest
     ensures { result.0 ≡ page_hash salt.now page.now }
 {
@@ -60,7 +62,7 @@ pub fn top_level(blocks: u64) -> u32
     level
 }
 
-/// The shape of the tree over so many blocks. Contracts see their number.
+/// The shape of the tree over so many blocks, at most 1,048,576 (4 GiB). Contracts see their number. No call takes memory.
 #[derive(Drop)]
 pub struct Geometry {
     blocks: u64,
@@ -80,6 +82,7 @@ impl Geometry {
     /// The most blocks of a tree.
     pub const LIMIT: u64 = 1_048_576;
 
+    /// The shape over so many blocks: None exactly above 1,048,576.
     pub fn new(blocks: u64) -> Option<Geometry>
         ensures variant { IsSome result ↔ (blocks ≤ 1048576) }
         ensures value { IfSome result (λ g. g ≡ blocks) }
@@ -91,7 +94,7 @@ impl Geometry {
         }
     }
 
-    /// The top level.
+    /// The top level, the first with at most one page: from 0 to 3.
     pub fn top(&self) -> u32
         ensures value { result ≡ top self.now }
         ensures few { result ≤ 3 }
@@ -100,7 +103,7 @@ impl Geometry {
         top_level(self.blocks)
     }
 
-    /// The number of pages of a level.
+    /// The number of pages of a level, from 0, the blocks, to the top.
     pub fn pages(&self, level: u32) -> u64
         requires { level ≤ top self.now }
         ensures value { result ≡ pages_at self.now level }
@@ -113,7 +116,7 @@ impl Geometry {
         count
     }
 
-    /// How many pages stand above the blocks.
+    /// How many pages stand above the blocks: the pages of a stored tree.
     pub fn tree_pages(&self) -> u64
         ensures value { result ≡ tree_pages self.now }
         ensures few { result ≤ 8257 }
@@ -144,7 +147,7 @@ impl Geometry {
     }
 }
 
-/// The page of a level that stands over a block.
+/// The index of the page of a level that stands over a block. It takes no memory.
 pub fn ancestor_of(block: u64, level: u32) -> u64
     ensures value { result ≡ ancestor block level }
     ensures small { result ≤ block }

@@ -6,8 +6,11 @@ use std::alloc::AllocError;
 
 /// A device's measure: its number of blocks of 4096 bytes, and the salt and root of its hash tree.
 pub struct Measure {
+    /// How many blocks of 4096 bytes it has.
     pub blocks: u64,
+    /// What is hashed before each page.
     pub salt: Salt,
+    /// The hash of the top page of its tree.
     pub root: Digest,
 }
 

@@ -1,6 +1,6 @@
 -- What a walk says in a longer work, and what a mismatch says of a content.
-use Rattle.std.proofs.Common.{◌≡◌, ℕ, ◌<◌, ◌≤◌, ◌∙◌, List, ◌++◌, refl, ap, sym, inl, inr}
-use Rattle.std.specs.Prelude.{◌≢◌, ◌⊎◌}
+use Rattle.std.proofs.Common.{ℕ, ◌<◌, ◌≤◌, ◌∙◌, List, ◌++◌, refl, sym, inl, inr}
+use Rattle.std.specs.Prelude.{◌≢◌}
 use Rattle.host_traits.specs.declared.calls.Call.{Call}
 use Rattle.host_traits.specs.Told.{Told, Exchanges}
 use Rattle.host_traits.specs.Did.{Trace, trace_of, trace_after}
@@ -12,7 +12,7 @@ use Rattle.sha_tree.specs.Path.{NoClash}
 use Rattle.sha_tree.proofs.Sound.{derived_more, other_page}
 use Rattle.verity_path.specs.States.{Met}
 use Rattle.verity_path.specs.Calls.{piece_for}
-use Rattle.verity_path.specs.Pieces.{IsPiece, IsSeen, IsHashed}
+use Rattle.verity_path.specs.Pieces.{IsPiece, IsHashed}
 use Rattle.verity_path.specs.Walk.{IsMismatch, IsWalkBlame, IsProved}
 use Rattle.verity_path.specs.declared.states.Mismatch.{Mismatch}
 use Rattle.verity_path.specs.declared.walk.Layout.{Layout}

@@ -1,5 +1,5 @@
 -- One page of a walk, from the answer to its call.
-use Rattle.std.proofs.Common.{◌≡◌, ℕ, ◌+◌, ◌-◌, ◌<◌, ◌≤◌, ◌∙◌, List, [], ◌∷◌, length, take, drop, Ok, Err, refl, ap, sym, subst, inl, ⊎_elim, arith, length-take}
+use Rattle.std.proofs.Common.{◌≡◌, ℕ, ◌+◌, ◌-◌, ◌<◌, ◌≤◌, ◌∙◌, List, [], ◌∷◌, length, drop, Ok, Err, refl, ap, sym, subst, inl, ⊎_elim, arith, length-take}
 use Rattle.std.specs.Prelude.{◌≢◌, slice_range}
 use Rattle.host_traits.specs.declared.calls.Call.{Call}
 use Rattle.host_traits.specs.declared.calls.Said.{Said}
@@ -10,7 +10,7 @@ use Rattle.sha_tree.specs.Tree.{padded, page_hash}
 use Rattle.sha_tree.proofs.Pages.{length-padded}
 use Rattle.verity_path.specs.States.{Place, Met, IsMet}
 use Rattle.verity_path.specs.Calls.{call_for, piece_for, asked_for}
-use Rattle.verity_path.specs.Pieces.{IsPieceOf, IsPiece}
+use Rattle.verity_path.specs.Pieces.{IsPieceOf}
 use Rattle.verity_path.specs.Steps.{IsCallFor, IsPlaced, FetchOutcome}
 use Rattle.verity_path.specs.declared.states.Mismatch.{Mismatch}
 use Rattle.verity_path.specs.declared.ask.Piece.{Piece}

@@ -1,13 +1,13 @@
 -- A read of a range, block by block.
-use Rattle.std.proofs.Common.{◌≡◌, ℕ, ◌+◌, ◌-◌, ◌*◌, ◌/◌, ◌%◌, ◌<◌, ◌≤◌, min, max, List, [], ◌++◌, length, take, drop, get_or, ap, sym, suc, ◌∙◌, refl, arith, ⊎_elim, Ok, Err, Result}
+use Rattle.std.proofs.Common.{◌≡◌, ℕ, ◌+◌, ◌-◌, ◌*◌, ◌/◌, ◌%◌, ◌<◌, ◌≤◌, min, max, List, [], ◌++◌, length, take, drop, get_or, ap, sym, suc, ◌∙◌, refl, arith, ⊎_elim, Ok, Err}
 use Rattle.std.specs.Prelude.{slice_index, slice_range, ◌⊎◌}
 use Rattle.std.proofs.lemmas.List.{get_or-take, get_or-drop, get_or_append_left, length-take, length-drop, length-append, ext_get_or}
 use Rattle.std.proofs.Math.Nat.{suc-mul, mul-le-mul_right}
 use Rattle.std.proofs.Math.Seq.{get_or-append_right}
 use Rattle.host_traits.specs.declared.calls.Call.{Call}
 use Rattle.host_traits.specs.Told.{Told, Exchanges}
-use Rattle.host_traits.specs.Did.{Trace, trace_of, Did}
-use Rattle.host_traits.proofs.Doing.{did_none, did_so, did_then, in_right, short_later, failed_later, failed_so}
+use Rattle.host_traits.specs.Did.{Did}
+use Rattle.host_traits.proofs.Doing.{did_none, did_so, did_then}
 use Rattle.sha_tree.specs.declared.measure.Measure.{Measure}
 use Rattle.sha_tree.specs.Tree.{block as content_block, page_hash, top}
 use Rattle.sha_tree.specs.Measured.{HasTree}
@@ -16,7 +16,7 @@ use Rattle.sha_tree.proofs.Sound.{derived_more}
 use Rattle.verity_path.specs.States.{Met}
 use Rattle.verity_path.specs.Calls.{IsOnPath}
 use Rattle.verity_path.specs.Pieces.{IsPiece, IsHashed}
-use Rattle.verity_path.specs.Walk.{IsProved, WalkOutcome, IsWalkBlame}
+use Rattle.verity_path.specs.Walk.{IsProved, WalkOutcome}
 use Rattle.verity_path.specs.Range.{end_of, touched, most_answers, IsForRead, IsCut, RangeOutcome, RangeSoFar}
 use Rattle.verity_path.specs.declared.walk.Layout.{Layout}
 use Rattle.verity_path.specs.declared.walk.Layout.TheVariants.{File}

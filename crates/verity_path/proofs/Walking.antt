@@ -1,20 +1,20 @@
 -- A walk, page by page.
-use Rattle.std.proofs.Common.{◌≡◌, ℕ, ◌+◌, ◌-◌, ◌*◌, ◌/◌, ◌%◌, ◌<◌, ◌≤◌, ◌∙◌, List, [], ◌++◌, length, Result, Ok, Err, refl, ap, sym, subst, arith, inl, inr}
+use Rattle.std.proofs.Common.{◌≡◌, ℕ, ◌+◌, ◌-◌, ◌/◌, ◌%◌, ◌<◌, ◌≤◌, ◌∙◌, List, [], ◌++◌, Result, Ok, Err, refl, ap, sym, subst, arith, inl, inr}
 use Rattle.host_traits.specs.declared.calls.Call.{Call}
 use Rattle.host_traits.specs.Told.{Told, Exchanges}
 use Rattle.host_traits.specs.Did.{Trace, trace_of, Did}
 use Rattle.host_traits.proofs.Doing.{in_left, in_right, did_none, did_so, did_then, short_later, failed_later, failed_so}
 use Rattle.sha_tree.specs.declared.measure.Measure.{Measure}
-use Rattle.sha_tree.specs.Tree.{block as content_block, ancestor, hash_input, page_hash, pages_at, slot, top}
+use Rattle.sha_tree.specs.Tree.{block as content_block, ancestor, page_hash, slot, top}
 use Rattle.sha_tree.specs.Measured.{HasTree}
-use Rattle.sha_tree.specs.Path.{IsDerived, IsInput, NoClash}
+use Rattle.sha_tree.specs.Path.{IsDerived, NoClash}
 use Rattle.sha_tree.proofs.Levels.{ancestor-top, ancestor-page, ancestor-above, ancestor-zero}
 use Rattle.sha_tree.proofs.Sound.{derived_more, derived_top, derived_below, all_sound}
 use Rattle.verity_path.specs.States.{Place, Met, IsMet}
-use Rattle.verity_path.specs.Calls.{IsOnPath, call_for, piece_for}
-use Rattle.verity_path.specs.Pieces.{IsPiece, IsSeen, IsHashed}
-use Rattle.verity_path.specs.Steps.{IsCallFor, IsFetched, IsOther, IsFetchBlame, FetchOutcome, IsBelow}
-use Rattle.verity_path.specs.Walk.{IsMismatch, IsWalkBlame, IsProved, WalkOutcome}
+use Rattle.verity_path.specs.Calls.{IsOnPath, call_for}
+use Rattle.verity_path.specs.Pieces.{IsPiece, IsHashed}
+use Rattle.verity_path.specs.Steps.{IsCallFor, IsFetched, IsFetchBlame, FetchOutcome, IsBelow}
+use Rattle.verity_path.specs.Walk.{IsWalkBlame, IsProved, WalkOutcome}
 use Rattle.verity_path.specs.declared.walk.Layout.{Layout}
 use Rattle.verity_path.specs.declared.walk.WalkFault.{WalkFault}
 use Rattle.verity_path.specs.declared.walk.WalkFault.TheVariants as fault

@@ -1,5 +1,5 @@
 -- Reads of a range of a measured content.
-use Rattle.std.specs.Prelude.{◌≡◌, ℕ, ◌+◌, ◌-◌, ◌*◌, ◌/◌, ◌%◌, ◌<◌, ◌≤◌, min, max, List, [], length, take, drop, slice_index, nat_lt, if◌then◌else◌, Option, Some, None, Result, Ok, Err}
+use Rattle.std.specs.Prelude.{◌≡◌, ℕ, ◌+◌, ◌-◌, ◌*◌, ◌/◌, ◌%◌, ◌<◌, ◌≤◌, min, max, List, length, take, drop, slice_index, nat_lt, if◌then◌else◌, Option, Some, None, Result, Ok, Err}
 use Rattle.host_traits.specs.declared.calls.Call.{Call}
 use Rattle.host_traits.specs.Told.{Exchanges}
 use Rattle.host_traits.specs.Did.{Trace, IsShort, IsFailed}

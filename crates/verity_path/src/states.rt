@@ -86,9 +86,13 @@ impl Anchor {
 /// The hash of the page at a place is not the digest that it must have.
 #[derive(Clone, Copy, Debug, PartialEq, Eq, Drop)]
 pub struct Mismatch {
+    /// The level of the place, 0 for a block.
     pub level: u32,
+    /// The number of the page in its level.
     pub index: u64,
+    /// The digest that the page must have.
     pub expected: Digest,
+    /// The digest that it has.
     pub found: Digest,
 }
 
@@ -146,7 +150,7 @@ pub fn check<'a>(
 }
 
 impl<'a> Proved<'a> {
-    /// The page's bytes.
+    /// The page's 4096 bytes.
     pub fn bytes(&self) -> &[u8; 4096]
         ensures value { result.now ≡ self.now.page }
         ensures met { IsMet self.now }

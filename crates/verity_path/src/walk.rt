@@ -24,7 +24,9 @@ pub enum Layout {
 /// Room for an answer and a page.
 #[derive(Drop)]
 pub struct Buffers {
+    /// For the host's answer.
     pub raw: Raw,
+    /// For the page that is proved.
     pub page: Page,
 }
 

@@ -1,6 +1,5 @@
-use Rattle.std.proofs.Common.{arith, ap, refl, sym, ◌≡◌, ◌+◌, ◌∙◌, sum_by}
-use Rattle.std.specs.List.{range_with_len}
-use Rattle.sha_tree.specs.Tree.{tree_pages, pages_at, top}
+use Rattle.std.proofs.Common.{arith, refl, ◌≡◌}
+use Rattle.sha_tree.specs.Tree.{tree_pages, top}
 use Rattle.sha_tree.proofs.Levels.{tree_pages-low, pages_one_more}
 use Rattle.sha_tree.proofs.Geometry.tree_pages.Goals as goal
 

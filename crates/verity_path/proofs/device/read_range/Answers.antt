@@ -1,5 +1,4 @@
-use Rattle.std.proofs.Common.{[], ◌≡◌, ◌<◌, ◌+◌, min, arith}
-use Rattle.verity_path.specs.Range.{end_of}
+use Rattle.std.proofs.Common.{[], arith}
 use Rattle.verity_path.proofs.Ranges.{range_none, range_start, range_on, range_bad, range_end}
 use Rattle.verity_path.proofs.device.read_range.Goals as goal
 use Rattle.verity_path.proofs.device.read_range.Goals.{then-len-eq0-via-then-len-eq0, then-len-eq0-via-else-len-eq0+then-at-size}

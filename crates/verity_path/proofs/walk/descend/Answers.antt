@@ -1,4 +1,4 @@
-use Rattle.std.proofs.Common.{◌≡◌, ℕ, ap, arith}
+use Rattle.std.proofs.Common.{ap, arith}
 use Rattle.sha_tree.proofs.Levels.{pages_at-low}
 use Rattle.verity_path.specs.States.{Place}
 use Rattle.verity_path.proofs.walk.descend.Goals as goal

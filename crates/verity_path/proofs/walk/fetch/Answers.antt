@@ -1,4 +1,3 @@
-use Rattle.std.proofs.Common.{arith}
 use Rattle.verity_path.proofs.Fetching.{short, good, other}
 use Rattle.verity_path.proofs.walk.fetch.Goals as goal
 

@@ -1,4 +1,4 @@
-use Rattle.std.proofs.Common.{◌≡◌, ℕ, ap, sym, ◌∙◌, arith}
+use Rattle.std.proofs.Common.{◌≡◌, ap, sym, ◌∙◌, arith}
 use Rattle.sha_tree.specs.Tree.{top, ancestor}
 use Rattle.sha_tree.proofs.Levels.{ancestor-top}
 use Rattle.verity_path.specs.States.{Place}

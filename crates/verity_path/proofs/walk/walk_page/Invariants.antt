@@ -1,4 +1,4 @@
-use Rattle.std.proofs.Common.{◌≡◌, ◌≤◌, ◌-◌}
+use Rattle.std.proofs.Common.{◌-◌}
 use Rattle.host_traits.specs.Did.{Did}
 use Rattle.sha_tree.specs.Tree.{top}
 use Rattle.verity_path.specs.Calls.{IsOnPath}

@@ -1,6 +1,6 @@
 use Rattle.std.proofs.Common.{List, [], subst, sym}
 use Rattle.mg_base.specs.declared.values.Digest.{Digest}
-use Rattle.sha_tree.specs.Fed.{Fed, IsFed}
+use Rattle.sha_tree.specs.Fed.{IsFed}
 use Rattle.sha_tree.proofs.LeafCuts.{IsFed-none}
 use Rattle.sha_tree.proofs.builder.Builder.new.Goals as goal
 
