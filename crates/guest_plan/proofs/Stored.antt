@@ -45,8 +45,7 @@ named_take make n f l e =
     let x = bind_ok (host_number n) (λ k. folder_name_of f >>= λ file. Ok (make k file)) l e in
     let y = bind_ok (folder_name_of f) (λ file. Ok (make x.0 file)) l x.2 in
     let number = number_takes 0 2147483648 n x.0 (omega arith) x.1 in
-    let name = folder_name_takes f y.0 y.1 in
-    (
+    let name = folder_name_takes f y.0 y.1 in (
       (x.0, y.0),
       record {
         number = number.2;

@@ -1,8 +1,8 @@
 -- The text of a plan, piece by piece.
-use Rattle.std.proofs.Common.{◌≡◌, ℕ, List, [], ◌∷◌, ◌++◌, map, refl, sym, ap, ◌∙◌, append_assoc}
+use Rattle.std.proofs.Common.{◌≡◌, ℕ, List, [], ◌∷◌, ◌++◌, map, None, refl, sym, ap, subst, ◌∙◌, append_assoc, arith}
 use Rattle.std.specs.Prelude.{codes, OnOk, Result, Ok, Err}
 use Rattle.std.specs.List.{flat_map}
-use Rattle.text_lines.specs.Spelling.{ended, ◌then◌}
+use Rattle.text_lines.specs.Spelling.{ended, ◌then◌, collect}
 use Rattle.guest_plan.specs.declared.plan.PlanLine.{PlanLine}
 use Rattle.guest_plan.specs.declared.plan.Item.{Item}
 use Rattle.guest_plan.specs.declared.plan.Item.TheVariants.{Line}
@@ -47,3 +47,10 @@ apk_parts old d a rest = simp append_assoc
 pub apk_joined : {T E : Type 0} (r : Result T E) (old mid new d a rest : List ℕ) → mid ≡ old ++ (codes "apk" then d then a) → OnOk r (new ≡ mid ++ 32 ∷ rest) → OnOk r (new ≡ old ++ (codes "apk" then d then a then rest))
 apk_joined (Ok x) old mid new d a rest first second = second ∙ ap (λ (t : List ℕ). t ++ 32 ∷ rest) first ∙ apk_parts old d a rest
 apk_joined (Err e) old mid new d a rest first second = tt
+
+-- a plan without lines is in the grammar
+pub empty_written : (lines : List PlanLine) (numbers : List ℕ) → lines ≡ [] → numbers ≡ [] → IsWritten (record { secret = None; salt = None; lines = lines; numbers = numbers })
+unfolding collect
+empty_written lines numbers a b =
+    subst (λ (x : List PlanLine). IsWritten (record { secret = None; salt = None; lines = x; numbers = numbers })) (sym a)
+    (subst (λ (x : List ℕ). IsWritten (record { secret = None; salt = None; lines = []; numbers = x })) (sym b) (record { each = tt; few = omega arith; says = refl; complete = refl }))

@@ -97,3 +97,35 @@ fn writes_a_plan(rt: HostRuntime) -> Result<(), Fail> {
     assert!(rt; text.as_slice() == b"plan 1\n".as_slice());
     Ok(())
 }
+
+const BAD_STORES: &[(&str, u64, PlanKind)] = &[
+    ("plan 1\n", 1, PlanKind::Header),
+    ("store 1\nfile 1 a\n", 2, PlanKind::Word),
+    ("store 1\nkeep 1 a\n", 2, PlanKind::Fields),
+    ("store 1\nkeep dir 1 a\n", 2, PlanKind::Word),
+    ("store 1\ndisk 0 a\ncomposite 0 b\n", 3, PlanKind::Twice),
+    ("store 1\nempty 1\ndir 1\n", 3, PlanKind::Twice),
+    ("store 1\nkeep file 1 a\ndir 1\n", 2, PlanKind::Missing),
+    ("store 1\nverity 1 a ABCD\n", 2, PlanKind::Hex),
+];
+
+#[test]
+fn reads_store_lists(rt: HostRuntime) -> Result<(), Fail> {
+    let alloc = rt.alloc();
+    for (text, line, kind) in BAD_STORES {
+        let read = read_store(alloc, text.as_bytes());
+        assert_eq!(rt;
+            read.err(),
+            Some(PlanFault::At {
+                line: *line,
+                kind: *kind
+            }),
+            "{text}"
+        );
+    }
+    let lines = "composite 1 c\nverity 0 d/e -\nempty 1\ndir 2\nkeep file 1 w\nkeep disk 1 x\n";
+    let text = format!(in alloc; "store 1\ndisk 0 a\n{lines}")?;
+    let store = read_store(alloc, text.as_bytes())?;
+    assert_eq!(rt; store.lines.len(), 7);
+    Ok(())
+}
