@@ -57,3 +57,12 @@ pub tape_session : (items : List Device) (entropy : List ℕ) (tape : Played) (t
     → IsSession (Replayed items entropy tape.records) (tape_told q) in_a in_b out_a out_b log_a log_b r
 tape_session items entropy tape t q in_a in_b out_a out_b log_a log_b r fresh d =
     session_so _ _ (λ turns runs. replayed items entropy tape.records t q turns (subst (λ (p : Played). Runs items (record { entropy = entropy }) t (tape_told p) (tape_told q) turns) fresh runs)) (tape_told q) in_a in_b out_a out_b log_a log_b r d
+
+-- the same where the items and the first state are equal
+pub tape_session_by : (i items : List Device) (st : State) (entropy : List ℕ) (tape : Played) (t : State) (q : Played) (in_a in_b out_a out_b log_a log_b : Option (List ℕ)) (r : Result (Unit {0}) SessionEnd) → i ≡ items → st ≡ record { entropy = entropy } → tape ≡ unplayed tape.records
+    → IsSession (Runs i st t (tape_told tape) (tape_told q)) (tape_told q) in_a in_b out_a out_b log_a log_b r
+    → IsSession (Replayed items entropy tape.records) (tape_told q) in_a in_b out_a out_b log_a log_b r
+tape_session_by i items st entropy tape t q in_a in_b out_a out_b log_a log_b r e f fresh d =
+    tape_session items entropy tape t q in_a in_b out_a out_b log_a log_b r fresh
+    (subst (λ (s : State). IsSession (Runs items s t (tape_told tape) (tape_told q)) (tape_told q) in_a in_b out_a out_b log_a log_b r) f
+    (subst (λ (j : List Device). IsSession (Runs j st t (tape_told tape) (tape_told q)) (tape_told q) in_a in_b out_a out_b log_a log_b r) e d))
