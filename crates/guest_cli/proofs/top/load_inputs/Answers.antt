@@ -2,7 +2,7 @@ use Rattle.std.proofs.Common.{◌≡◌, subst, sym, ap}
 use Rattle.guest_plan.specs.Plans.{known}
 use Rattle.guest_cli.specs.Replay.{IsThere}
 use Rattle.guest_cli.proofs.Loading.{taped_fails}
-use Rattle.guest_cli.proofs.guest.load_inputs.Goals as goal
+use Rattle.guest_cli.proofs.top.load_inputs.Goals as goal
 
 pub returns-in-Err-taped-clause-err : goal.returns-in-Err-taped-clause-err
 returns-in-Err-taped-clause-err g c =

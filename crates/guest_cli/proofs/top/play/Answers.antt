@@ -1,6 +1,6 @@
 use Rattle.std.proofs.Common.{◌≡◌, inr, ap, sym, ◌∙◌}
 use Rattle.guest_cli.proofs.Headline.{tape_session_by}
-use Rattle.guest_cli.proofs.guest.play.Goals as goal
+use Rattle.guest_cli.proofs.top.play.Goals as goal
 
 pub returns-clause-played : goal.returns-clause-played
 returns-clause-played g c = inr (record {
