@@ -1,5 +1,5 @@
 // The files of the file system.
-ghost use Rattle.std.specs.Prelude.{◌≡◌, ◌≤◌, ◌+◌, ℕ, None};
+ghost use Rattle.std.specs.Prelude.{◌≡◌, None};
 ghost use Rattle.std.specs.Option.{option_map};
 ghost use Rattle.host_traits.specs.Folders.{errand_of};
 
@@ -41,13 +41,6 @@ impl<'a, R> Disk<'a, R> {
             last: None,
         }
     }
-
-    // Counts a failed call, and keeps it.
-    fn failed(&mut self, call: FolderCall) -> FolderError {
-        self.faults = self.faults.saturating_add(1);
-        self.last = Some(call);
-        FolderError::Failed
-    }
 }
 
 impl<R: Files> Folder for Disk<'_, R> {
@@ -64,7 +57,11 @@ impl<R: Files> Folder for Disk<'_, R> {
         match read_file(self.rt, alloc, name, max + 1) {
             Ok(bytes) => Ok(bytes),
             Err(error) if error.kind() == ErrorKind::OutOfMemory => Err(FolderError::Memory),
-            Err(_) => Err(self.failed(FolderCall::Load(copy))),
+            Err(_) => {
+                self.faults = self.faults.saturating_add(1);
+                self.last = Some(FolderCall::Load(copy));
+                Err(FolderError::Failed)
+            }
         }
     }
 
@@ -75,7 +72,11 @@ impl<R: Files> Folder for Disk<'_, R> {
         match replace_file(self.rt, alloc, name, bytes) {
             Ok(()) => Ok(()),
             Err(error) if error.kind() == ErrorKind::OutOfMemory => Err(FolderError::Memory),
-            Err(_) => Err(self.failed(FolderCall::Store(copy))),
+            Err(_) => {
+                self.faults = self.faults.saturating_add(1);
+                self.last = Some(FolderCall::Store(copy));
+                Err(FolderError::Failed)
+            }
         }
     }
 }

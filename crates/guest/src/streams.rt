@@ -1,9 +1,22 @@
 // The standard streams.
-ghost use Rattle.std.specs.Prelude.{◌≡◌, ◌≤◌, ◌+◌, ℕ, None};
-ghost use Rattle.host_traits.specs.Told.{Rose};
+ghost use Rattle.std.specs.Prelude.{◌≡◌, ◌≤◌, length, None, IfSome};
 
 use host_traits::{Failed, Sink, Source};
 use std::io::{ErrorKind, Read, Write};
+
+// Reads once, and again after an interrupt. None where that failed.
+fn read_some<R: Read>(stream: &mut R, out: &mut [u8]) -> Option<usize>
+    ensures most { IfSome result (λ n. n ≤ length out.old) }
+{
+    for _ in 0..u64::MAX {
+        match stream.read(out) {
+            Ok(count) => return Some(count),
+            Err(error) if error.kind() == ErrorKind::Interrupted => {}
+            Err(_) => break,
+        }
+    }
+    None
+}
 
 /// Reads a stream, and counts its failures. What is left in it isn't known.
 #[derive(Drop)]
@@ -24,15 +37,13 @@ impl<R: Read> Source for Input<R> {
     ghost faults = { λ i. i.faults };
 
     fn read(&mut self, out: &mut [u8]) -> Result<usize, Failed> {
-        for _ in 0..u64::MAX {
-            match self.stream.read(out) {
-                Ok(count) => return Ok(count),
-                Err(error) if error.kind() == ErrorKind::Interrupted => {}
-                Err(_) => break,
+        match read_some(&mut self.stream, out) {
+            Some(count) => Ok(count),
+            None => {
+                self.faults = self.faults.saturating_add(1);
+                Err(Failed)
             }
         }
-        self.faults = self.faults.saturating_add(1);
-        Err(Failed)
     }
 }
 
