@@ -88,7 +88,11 @@ pub fn read(stream: &mut Vec<u8>, item: u32, offset: u64, size: u32) -> Result<(
 
 /// Puts a reply of channel 1 behind others.
 pub fn reply(replies: &mut Vec<u8>, code: u32, bytes: &[u8]) -> Result<(), Fail> {
-    let size = u32::try_from(bytes.len()).ok().ok_or("long")?.wrapping_add(4).to_le_bytes();
+    let size = u32::try_from(bytes.len())
+        .ok()
+        .ok_or("long")?
+        .wrapping_add(4)
+        .to_le_bytes();
     replies.extend_from_slice(&size)?;
     replies.extend_from_slice(&[1, 0, 0, 0])?;
     let code = code.to_le_bytes();
