@@ -5,11 +5,15 @@ pub mod boot;
 pub mod engine;
 pub mod entropy;
 pub mod files;
-pub mod guest;
 pub mod log;
 pub mod session;
 pub mod status;
+pub mod top;
 pub mod words;
 
+pub use crate::boot::Machine;
 pub use crate::engine::{Engine, FrameAnswer, answer_frame};
 pub use crate::entropy::Entropy;
+pub use crate::session::SessionEnd;
+pub use crate::status::{Form, Status};
+pub use crate::top::guest;

@@ -154,7 +154,8 @@ fn write_file_end<L: Sink>(name: &str, log: &mut L) -> Result<(), Failed>
     log.write_all(b"\n")
 }
 
-/// Writes the end line of a status, if it has one. After `Failed` a front part of it was written. It takes no memory.
+/// Writes the end line of a status. A finished run and a fault of the output have none, and then the log isn't asked. After
+/// `Failed` a front part of it was written. It takes no memory.
 pub fn write_end<L: Sink>(status: &Status, log: &mut L) -> Result<(), Failed>
     ensures ok { OnOk result (Appends (L.holds log.old) (L.holds log.new) (end_line status.now)) }
     ensures err { OnErr result (SomePrefix (L.holds log.old) (L.holds log.new) (end_line status.now)) }
@@ -162,7 +163,7 @@ pub fn write_end<L: Sink>(status: &Status, log: &mut L) -> Result<(), Failed>
 {
     match status {
         Status::FileFault { name } => write_file_end(name.as_str(), log),
-        Status::Done | Status::WriteFault => log.write_all(b""),
+        Status::Done | Status::WriteFault => Ok(()),
         _ => {
             let mut line = end_words(status);
             line.put(b"\n");

@@ -150,3 +150,93 @@ fn play<S: Source, K: Sink, L: Sink>(
     );
     made_status(ended)
 }
+
+// A replay of a tape.
+fn replay<F: Folder, S: Source, K: Sink, L: Sink>(
+    alloc: Global,
+    plan: &str,
+    tape: &str,
+    entropy: &str,
+    folder: &mut F,
+    input: &mut S,
+    out: &mut K,
+    log: &mut L,
+) -> Status
+    ensures files { F.files folder.new ≡ F.files folder.old }
+    ensures replays { Replays (F.files folder.old) plan.now tape.now entropy.now (record { input = S.left input.old; out = K.holds out.old; log = L.holds log.old })
+        (record { input = S.left input.new; out = K.holds out.new; log = L.holds log.new }) result }
+    ensures file { FileCause (F.faults folder.old) (F.faults folder.new) (F.last_failed folder.new) result }
+    ensures read { result ≡ Status.ReadFault → Rose (S.faults input.old) (S.faults input.new) }
+    ensures write { result ≡ Status.WriteFault → Rose (K.faults out.old) (K.faults out.new) ⊎ Rose (L.faults log.old) (L.faults log.new) }
+    ensures out { K.faults out.old ≤ K.faults out.new }
+    ensures log { L.faults log.old ≤ L.faults log.new }
+{
+    match load_inputs(alloc, folder, plan, tape, entropy) {
+        Ok(inputs) => play(alloc, inputs, input, out, log),
+        Err(status) => status,
+    }
+}
+
+// What the words ask for, before the end line.
+fn serve<F: Folder, S: Source, K: Sink, L: Sink>(
+    alloc: Global,
+    words: &[String],
+    folder: &mut F,
+    input: &mut S,
+    out: &mut K,
+    log: &mut L,
+) -> Status
+    ensures files { F.files folder.new ≡ F.files folder.old }
+    ensures serves { Serves (command_of (map string_bytes words.now)) (F.files folder.old) (record { input = S.left input.old; out = K.holds out.old; log = L.holds log.old })
+        (record { input = S.left input.new; out = K.holds out.new; log = L.holds log.new }) result }
+    ensures file { FileCause (F.faults folder.old) (F.faults folder.new) (F.last_failed folder.new) result }
+    ensures read { result ≡ Status.ReadFault → Rose (S.faults input.old) (S.faults input.new) }
+    ensures write { result ≡ Status.WriteFault → Rose (K.faults out.old) (K.faults out.new) ⊎ Rose (L.faults log.old) (L.faults log.new) }
+    ensures out { K.faults out.old ≤ K.faults out.new }
+    ensures log { L.faults log.old ≤ L.faults log.new }
+{
+    match command_of(words) {
+        Some(
+            Command::Replay {
+                plan,
+                tape,
+                entropy,
+            },
+        ) => replay(alloc, plan, tape, entropy, folder, input, out, log),
+        Some(Command::Unbuilt) => Status::Unbuilt {
+            form: Form::Command,
+            at: 0,
+        },
+        None => Status::Usage,
+    }
+}
+
+/// Runs the guest as the words say: `replay PLAN TAPE ENTROPY` answers the frames of `input` from the records of a tape, with
+/// the replies to `out` and the log to `log`. A status other than 0 and 6 writes one end line to the log; a fault of that
+/// makes the status 6. No file changes.
+///
+/// The contract is the promise of the whole product. Of the bytes that came, each frame that was answered is a turn of one run
+/// of the machine, in every world whose contents have the plan's measures and in which no two different inputs share a digest:
+/// a read's bytes are the content's slice, or its reply is a refusal by the rules or a fault that the tape's own answers to
+/// that read caused. The replies and the lines of the log are those of these turns and nothing else.
+pub fn guest<F: Folder, S: Source, K: Sink, L: Sink>(
+    alloc: Global,
+    words: &[String],
+    folder: &mut F,
+    input: &mut S,
+    out: &mut K,
+    log: &mut L,
+) -> Status
+    ensures files { F.files folder.new ≡ F.files folder.old }
+    ensures guest { Guest (command_of (map string_bytes words.now)) (F.files folder.old) (record { input = S.left input.old; out = K.holds out.old; log = L.holds log.old })
+        (record { input = S.left input.new; out = K.holds out.new; log = L.holds log.new }) result }
+    ensures file { FileCause (F.faults folder.old) (F.faults folder.new) (F.last_failed folder.new) result }
+    ensures read { result ≡ Status.ReadFault → Rose (S.faults input.old) (S.faults input.new) }
+    ensures write { result ≡ Status.WriteFault → Rose (K.faults out.old) (K.faults out.new) ⊎ Rose (L.faults log.old) (L.faults log.new) }
+{
+    let status = serve(alloc, words, folder, input, out, log);
+    match write_end(&status, log) {
+        Ok(()) => status,
+        Err(_) => Status::WriteFault,
+    }
+}

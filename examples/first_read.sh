@@ -1,0 +1,34 @@
+#!/bin/sh
+# Reads twelve bytes of a measured blob through a host: first an honest one, then one that changed a bit of the second block.
+# It builds the program `guest` and prints, for each host, the replies in hexadecimal, the log and the status.
+set -eu
+cd "$(dirname "$0")/../crates/guest"
+work=$(mktemp -d)
+trap 'rm -rf "$work"' EXIT
+
+# The build proves the program and all crates below it where that isn't kept from before.
+if ! rt run -- replay data/plan data/tape data/entropy <stdin >"$work/replies" 2>"$work/build"; then
+    cat "$work/build" >&2
+    exit 1
+fi
+
+# The last record's 4096 bytes are the second block: the lowest bit of its first byte, 1 for 0.
+size=$(wc -c <data/tape)
+cp data/tape "$work/changed"
+first=$(od -An -tu1 -j $((size - 4096)) -N 1 data/tape | tr -d ' ')
+printf "\\$(printf %o $((first ^ 1)))" | dd of="$work/changed" bs=1 seek=$((size - 4096)) conv=notrunc 2>/dev/null
+
+show() {
+    status=0
+    out/guest replay data/plan "$2" data/entropy <stdin >"$work/replies" 2>"$work/log" || status=$?
+    echo "$1"
+    echo "replies:"
+    od -An -v -tx1 "$work/replies"
+    echo "log:"
+    cat "$work/log"
+    echo "status: $status"
+}
+
+show "The honest host" data/tape
+echo
+show "A host that changed one bit" "$work/changed"
