@@ -1,5 +1,5 @@
 """gpt_print beside parted: it reads the entries of the disks that we write, and we read its own."""
-from lib.disks import LENGTHS, blank, both_copies, written
+from lib.disks import LENGTHS, blank, spoiled, table, written
 from lib.frame import check, program, run, same, tool
 
 
@@ -14,11 +14,12 @@ def body():
     ours, theirs = program("gpt_print"), tool("parted")
     for lengths in LENGTHS:
         disk, entries = written(ours, lengths)
-        same(f"what parted reads, {lengths}", listed(theirs, disk), [it[2:] for it in entries])
+        same(f"what parted reads, {lengths}", [it[2:] for it in entries], listed(theirs, disk))
     disk = blank("their", 16)
     run(theirs, "-s", disk, "mklabel", "gpt", "mkpart", "apk", "1MiB", "2MiB", "mkpart", "idsig", "2MiB", "5MiB")
-    for copy, (_, entries) in enumerate(both_copies(ours, disk)):
-        same(f"parted's disk, copy {copy}", [it[2:] for it in entries], listed(theirs, disk))
+    for copy in (disk, spoiled(disk)):
+        _, entries = table(ours, copy)
+        same(f"what we read of parted's {copy}", [it[2:] for it in entries], listed(theirs, disk))
 
 
 check(body)

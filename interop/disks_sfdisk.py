@@ -2,14 +2,14 @@
 import json
 import subprocess
 
-from lib.disks import DISK, LENGTHS, blank, both_copies, written
+from lib.disks import DISK, LENGTHS, blank, spoiled, table, written
 from lib.frame import check, program, run, same, tool
 
 
 def listed(theirs, disk):
     """What sfdisk reads."""
     found = json.loads(run(theirs, "--json", disk))["partitiontable"]
-    entries = [(it["type"].lower(), it["uuid"].lower(), it["start"], it["start"] + it["size"] - 1, it.get("name", ""))
+    entries = [(it["type"].lower(), it.get("uuid", "").lower(), it["start"], it["start"] + it["size"] - 1, it.get("name", ""))
                for it in found["partitions"]]
     return found["id"].lower(), entries
 
@@ -18,14 +18,15 @@ def body():
     ours, theirs = program("gpt_print"), tool("sfdisk")
     for lengths in LENGTHS:
         disk, entries = written(ours, lengths)
-        said = run(theirs, "--verify", disk)
+        said = run(theirs, "--verify", disk, quiet=True)
         same(f"sfdisk --verify, {lengths}", "No errors detected" in said, True)
-        same(f"what sfdisk reads, {lengths}", listed(theirs, disk), (DISK, entries))
+        for copy in (disk, spoiled(disk)):
+            same(f"what sfdisk reads of {copy}, {lengths}", (DISK, entries), listed(theirs, copy))
     disk = blank("their", 16)
     script = b"label: gpt\nsize=1M, type=L, name=apk\nsize=3M, type=U, name=idsig\ntype=L\n"
     subprocess.run([theirs, "--quiet", disk], input=script, check=True, capture_output=True)
-    for copy, found in enumerate(both_copies(ours, disk)):
-        same(f"sfdisk's disk, copy {copy}", found, listed(theirs, disk))
+    for copy in (disk, spoiled(disk)):
+        same(f"what we read of sfdisk's {copy}", table(ours, copy), listed(theirs, disk))
 
 
 check(body)

@@ -1,5 +1,5 @@
 """gpt_print beside sgdisk: it finds no problem on the disks that we write and reads their entries, and we read its own."""
-from lib.disks import DISK, LENGTHS, blank, both_copies, written
+from lib.disks import DISK, LENGTHS, blank, spoiled, table, written
 from lib.frame import check, program, run, same, tool
 
 FIELDS = {
@@ -27,11 +27,12 @@ def body():
         disk, entries = written(ours, lengths)
         said = run(theirs, "-v", disk)
         same(f"sgdisk -v, {lengths}", "No problems found" in said, True)
-        same(f"what sgdisk reads, {lengths}", listed(theirs, disk, 3), (DISK, entries))
+        for copy in (disk, spoiled(disk)):
+            same(f"what sgdisk reads of {copy}, {lengths}", (DISK, entries), listed(theirs, copy, 3))
     disk = blank("their", 16)
     run(theirs, "-n", "1:0:+1M", "-c", "1:apk", "-n", "2:0:+3M", "-c", "2:idsig", "-t", "2:ef00", "-A", "2:set:2", "-n", "3:0:0", disk)
-    for copy, found in enumerate(both_copies(ours, disk)):
-        same(f"sgdisk's disk, copy {copy}", found, listed(theirs, disk, 3))
+    for copy in (disk, spoiled(disk)):
+        same(f"what we read of sgdisk's {copy}", table(ours, copy), listed(theirs, disk, 3))
 
 
 check(body)

@@ -47,11 +47,10 @@ def table(ours, disk):
     return first.removeprefix("disk "), entries
 
 
-def both_copies(ours, disk):
-    """What we read from a disk, and what we read from its alternate copy alone, the primary header being zeros."""
+def spoiled(disk):
+    """The disk with zeros for its primary header, so that only the alternate copy is left."""
     data = read(disk)
-    yield table(ours, disk)
-    yield table(ours, write("spoiled", data[:SECTOR] + bytes(SECTOR) + data[2 * SECTOR:]))
+    return write(f"{disk}-spoiled", data[:SECTOR] + bytes(SECTOR) + data[2 * SECTOR:])
 
 
 def blank(name, mebibytes):

@@ -32,11 +32,11 @@ def program(name):
     return path
 
 
-def run(*words):
-    """What a program prints. One that fails makes the check fail."""
+def run(*words, quiet=False):
+    """What a program prints. One that fails makes the check fail, and a warning too where `quiet` is wanted."""
     words = [str(word) for word in words]
     done = subprocess.run(words, stdin=subprocess.DEVNULL, capture_output=True, timeout=300)
-    if done.returncode != 0:
+    if done.returncode != 0 or (quiet and done.stderr):
         said = (done.stderr or done.stdout).decode(errors="replace").strip()
         raise Differs(f"{' '.join([os.path.basename(words[0]), *words[1:]])}: status {done.returncode}: {said[:300]}")
     return done.stdout.decode(errors="replace")
