@@ -80,6 +80,7 @@ def content(size, seed=1):
 def check(body):
     """Runs a check in a folder of its own and prints its line."""
     name = os.path.splitext(os.path.basename(sys.argv[0]))[0]
+    os.environ["LC_ALL"] = "C"
     before = os.getcwd()
     status = 0
     with tempfile.TemporaryDirectory(prefix="interop-") as folder:
