@@ -68,7 +68,7 @@ pub fn page(alloc: Global, digests: &[&str]) -> Result<Vec<u8>, Fail> {
 /// Puts a record of these bytes behind a tape.
 pub fn record(tape: &mut Vec<u8>, bytes: &[u8]) -> Result<(), Fail> {
     tape.push(3)?;
-    let size = (bytes.len() as u32).to_le_bytes();
+    let size = u32::try_from(bytes.len()).ok().ok_or("long")?.to_le_bytes();
     tape.extend_from_slice(&size)?;
     tape.extend_from_slice(bytes)?;
     Ok(())
@@ -88,7 +88,7 @@ pub fn read(stream: &mut Vec<u8>, item: u32, offset: u64, size: u32) -> Result<(
 
 /// Puts a reply of channel 1 behind others.
 pub fn reply(replies: &mut Vec<u8>, code: u32, bytes: &[u8]) -> Result<(), Fail> {
-    let size = (bytes.len() as u32).wrapping_add(4).to_le_bytes();
+    let size = u32::try_from(bytes.len()).ok().ok_or("long")?.wrapping_add(4).to_le_bytes();
     replies.extend_from_slice(&size)?;
     replies.extend_from_slice(&[1, 0, 0, 0])?;
     let code = code.to_le_bytes();

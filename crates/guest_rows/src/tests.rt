@@ -342,6 +342,7 @@ const FAULTS: &[(&[u64], &[u64], &[u64], &[u64], u8, &str)] = &[
     (&[1], &[], &[], &[], 3, "end 3 file tape\n"),
     (&[2], &[], &[], &[], 3, "end 3 file entropy\n"),
     (&[], &[0], &[], &[], 5, "end 5 read\n"),
+    (&[], &[24], &[], &[], 5, "end 5 read\n"),
     (&[], &[], &[0], &[], 6, ""),
     (&[], &[], &[1], &[], 6, ""),
     (&[0], &[], &[], &[0], 6, ""),
@@ -366,6 +367,37 @@ fn names_each_fault(rt: HostRuntime) -> Result<(), Fail> {
         let outcome = run(alloc, &setting)?;
         assert_eq!(rt; outcome.status, *status, "{log}");
         assert_eq!(rt; outcome.log.bytes(), log.as_bytes());
+    }
+    Ok(())
+}
+
+#[test]
+fn cuts_a_stream_anywhere(rt: HostRuntime) -> Result<(), Fail> {
+    let alloc = rt.alloc();
+    let tape = tape_of(alloc, &[Page, First, Page, First])?;
+    let mut stream = Vec::new(alloc);
+    read(&mut stream, 0, 0, 4)?;
+    read(&mut stream, 0, 4, 4)?;
+    let mut replies = Vec::new(alloc);
+    reply(&mut replies, 0, &[0, 1, 2, 3])?;
+    reply(&mut replies, 0, &[4, 5, 6, 7])?;
+    for cut in 0..stream.len() {
+        let setting = Setting {
+            piece: cut % 7 + 1,
+            ..replay(PLAN.as_bytes(), &tape, &stream[..cut])
+        };
+        let outcome = run(alloc, &setting)?;
+        let (status, log) = match cut {
+            0 | 24 => (0, ""),
+            1..=23 => (7, "end 7 frame 0\n"),
+            _ => (7, "end 7 frame 24\n"),
+        };
+        assert_eq!(rt; outcome.status, status, "{cut}");
+        assert_eq!(rt; outcome.log.bytes(), log.as_bytes());
+        assert_eq!(rt;
+            outcome.replies.bytes(),
+            replies.get(..cut / 24 * 16).ok_or("range")?
+        );
     }
     Ok(())
 }
