@@ -1,0 +1,52 @@
+"""Inputs for the programs: drawn bytes, reads, and tapes for the guest."""
+import os
+import random
+import sys
+
+sys.path.insert(0, f"{os.path.dirname(os.path.abspath(__file__))}/../interop")
+from lib.devices import DONE, FAILED, TAPE, Device, number, reply, request, told
+
+
+def content(size, seed):
+    """Drawn bytes, always the same for a seed."""
+    draw = random.Random(seed)
+    return b"".join(draw.randbytes(min(1 << 20, size - at)) for at in range(0, size, 1 << 20))
+
+
+def sequential(size, step):
+    """Reads of a device from its first byte to its last, each an offset and a length."""
+    return [(at, step) for at in range(0, size, step)]
+
+
+def scattered(size, step, count):
+    """Reads at drawn places."""
+    draw = random.Random(7)
+    return [(draw.randrange(size // step) * step, step) for _ in range(count)]
+
+
+def record(device, reads, tape, alone):
+    """Writes the tape of these reads, and its pages alone to another file; says how many there are."""
+    count = 0
+    tape.write(TAPE)
+    for at, size in reads:
+        for _, _, page in device.pages(at, size):
+            tape.write(told(page))
+            alone.write(page)
+            count += 1
+    return count
+
+
+def frames(reads):
+    """The request frames of these reads."""
+    return b"".join(request(at, size) for at, size in reads)
+
+
+def replies(device, reads):
+    """The reply frames to these reads."""
+    return b"".join(reply(0, device.content[at:at + size]) for at, size in reads)
+
+
+def records(count):
+    """A tape of so many records of all kinds, in turn."""
+    kinds = (FAILED, DONE, number(512), told(bytes(range(256))))
+    return TAPE + b"".join(kinds[i % 4] for i in range(count))
