@@ -1,0 +1,4 @@
+pub mod Said
+pub mod Wire
+pub mod Reading
+pub mod Grammar

@@ -1,0 +1,10 @@
+//! The composite file: which files make up a disk, and where each of them begins on it.
+#![tactic(auto)]
+
+mod kinds;
+mod reading;
+mod stated;
+mod wire;
+
+pub use crate::kinds::{Component, Spec, SpecFault};
+pub use crate::reading::read_spec;
