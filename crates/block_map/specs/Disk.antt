@@ -1,5 +1,6 @@
 -- The bytes of a composite disk, and which of them a call may read and write.
-use Rattle.std.specs.Prelude.{◌≡◌, ℕ, ◌+◌, ◌-◌, ◌<◌, ◌≤◌, ◌×◌, Bool, true, false, List, [], ◌∷◌, ◌++◌, length, map, take, drop, slice_index, slice_index_or, min, Result, Ok, Err, nat_lt, nat_le, ◌&&◌, ◌||◌, ◌==◌, if◌then◌else◌}
+use Rattle.std.specs.Prelude.{◌≡◌, ℕ, ◌+◌, ◌-◌, ◌<◌, ◌≤◌, Bool, true, false, List, [], ◌∷◌, ◌++◌, length, map, take, drop, slice_index, slice_index_or, min, Result, Ok, Err, nat_lt, not, ◌&&◌, ◌||◌, ◌==◌, if◌then◌else◌}
+use Rattle.std.specs.Str.{bytes_eq}
 use Rattle.std.specs.Global.{Vec}
 use Rattle.std.specs.List.{range_with_len}
 use Rattle.composite_spec.specs.Said.{Placed, Composite, offset_of}
@@ -34,6 +35,29 @@ write_of c = c.write
 abbrev pub is_writable : Composite → ℕ → Bool
 is_writable s i = slice_index_or (map write_of s.components) i false
 
+abbrev pub path_of : Placed → List ℕ
+path_of c = c.path
+
+abbrev pub is_path_of : Composite → ℕ → ℕ → Bool
+is_path_of s a b = bytes_eq (slice_index_or (map path_of s.components) a []) (slice_index_or (map path_of s.components) b [])
+
+-- two components that have one path, and one of the two is writable
+unfoldable pub is_alias : Composite → ℕ → ℕ → Bool
+is_alias s a b = is_path_of s a b && (is_writable s a || is_writable s b)
+
+-- no component below k has an earlier one that it is an alias of
+abbrev pub NoAliasBelow : Composite → ℕ → Type 0
+NoAliasBelow s k = (a b : ℕ) → a < b → b < k → is_alias s a b ≡ false
+
+-- the least component that is an alias of an earlier one, and the least of these, or none
+abbrev pub Aliases : {X : Type 0} → Composite → Result X MapFault → Type 0
+Aliases s (Ok m) = NoAliasBelow s (length s.components)
+Aliases s (Err (faults.Alias a b)) = (a < b) × (b < length s.components) × (is_alias s a b ≡ true) × NoAliasBelow s b × ((c : ℕ) → c < a → is_alias s c b ≡ false)
+Aliases s (Err faults.OutOfDisk) = ⊥
+Aliases s (Err (faults.ReadOnly i)) = ⊥
+Aliases s (Err (faults.PastComponent i)) = ⊥
+Aliases s (Err faults.Memory) = ⊥
+
 -- the component i has bytes of the range from `at` to `end`
 pub record IsTouched (s : Composite) (at end i : ℕ) : Type 0 where
   pub is : i < length s.components
@@ -55,7 +79,7 @@ MayWriteBelow s files at end k = (i : ℕ) → i < k → IsTouched s at end i �
 
 -- Whether a range may be written: the first reason why not, by the range and then by the touched components in
 -- order, or none.
-abbrev pub Judges : Composite → List (List ℕ) → ℕ → ℕ → Result Unit MapFault → Type 0
+abbrev pub Judges : {X : Type 0} → Composite → List (List ℕ) → ℕ → ℕ → Result X MapFault → Type 0
 Judges s files at end (Ok x) = (end ≤ s.length) × MayWriteBelow s files at end (length s.components)
 Judges s files at end (Err faults.OutOfDisk) = s.length < end
 Judges s files at end (Err (faults.ReadOnly i)) = (end ≤ s.length) × MayWriteBelow s files at end i × IsTouched s at end i × (is_writable s i ≡ false)
@@ -66,7 +90,7 @@ Judges s files at end (Err faults.Memory) = ⊥
 -- bytes of the file of the component i, after these bytes were written at the place `at` of the disk
 abbrev pub byte_written : Composite → ℕ → List ℕ → ℕ → ℕ → ℕ → ℕ
 byte_written s at bytes i y old =
-    if nat_le at (begin_of s i + y) && nat_lt (begin_of s i + y) (at + length bytes) && nat_lt (begin_of s i + y) (end_of s i) then slice_index bytes (begin_of s i + y - at) else old
+    if not (nat_lt (begin_of s i + y) at) && nat_lt (begin_of s i + y) (at + length bytes) && nat_lt (begin_of s i + y) (end_of s i) then slice_index bytes (begin_of s i + y - at) else old
 
 pub record IsWritten (s : Composite) (at : ℕ) (bytes : List ℕ) (i : ℕ) (old new : List ℕ) : Type 0 where
   pub size : length new ≡ length old

@@ -1,14 +1,15 @@
 // A composite disk's map over the files of its components.
-ghost use Rattle.std.specs.Prelude.{◌≡◌, ◌+◌, ◌-◌, ◌<◌, ◌≤◌, ℕ, ◌++◌, OnOk, OnErr, IfErr, IfOk, MatchResult, length, take, drop, min};
+ghost use Rattle.std.specs.Prelude.{◌≡◌, ◌+◌, ◌-◌, ◌<◌, ◌≤◌, ◌++◌, OnOk, OnErr, IfErr, IfOk, MatchResult, length, take, drop};
 ghost use Rattle.composite_spec.specs.Said.{Composite, IsComposite, composite};
-ghost use Rattle.block_map.specs.Disk.{contents, disk_bytes, begin_of, end_of, is_writable, Judges, AreWritten};
+ghost use Rattle.block_map.specs.Disk.{contents, disk_bytes, Aliases, Judges, AreWritten};
 ghost use Rattle.block_map.specs.declared.map.MapFault.TheVariants.{OutOfDisk};
 
+use crate::aliases::judge_aliases;
+use crate::moves::{copy, judge, overwrite};
 use composite_spec::Spec;
 use std::marker::Model;
-use crate::bytes::{copy_from, put};
 
-/// Why a map cannot be made, or a range not be read or written.
+/// Why a map cannot be made, or a range not be read or written. Components are counted from 0.
 #[derive(Clone, Copy, Debug, PartialEq, Eq, Drop)]
 pub enum MapFault {
     /// Two components have one path, and one of the two is writable.
@@ -40,49 +41,64 @@ impl Model for Map {
 }
 
 impl Map {
-    /// Where the component begins.
-    fn begin_of(&self, index: usize) -> u64
-        requires { index < length self.now.components }
-        ensures { result ≡ begin_of self.now index }
+    /// The map of a disk. It takes no memory.
+    pub fn new(spec: Spec) -> Result<Map, MapFault>
+        requires { IsComposite (composite spec) }
+        // The map is that of the description.
+        ensures value { IfOk result (λ m. m ≡ composite spec) }
+        // It is refused exactly where a component is an alias of an earlier one, by the first such.
+        ensures alias { Aliases (composite spec) result }
     {
-        self.spec.components[index].offset
-    }
-
-    /// Where the component ends.
-    fn end_of(&self, index: usize) -> u64
-        requires { index < length self.now.components }
-        ensures { result ≡ end_of self.now index }
-    {
-        if index + 1 < self.spec.components.len() {
-            return self.spec.components[index + 1].offset;
+        match judge_aliases(&spec) {
+            Ok(()) => Ok(Map { spec }),
+            Err(fault) => Err(fault),
         }
-        self.spec.length
     }
 
-    /// Whether the component may be written.
-    fn is_writable(&self, index: usize) -> bool
-        requires { index < length self.now.components }
-        ensures { result ≡ is_writable self.now index }
+    /// Reads the bytes of the disk from `at` on into all of `out`, from one file a component; past a file's end
+    /// they are zeros. It takes no memory.
+    pub fn read(&self, files: &[Vec<u8>], at: u64, out: &mut [u8]) -> Result<(), MapFault>
+        requires { length files.now ≡ length self.now.components }
+        // The bytes are the disk's.
+        ensures read { OnOk result (out.new ≡ take (length out.old) (drop at (disk_bytes self.now (contents files.now)))) }
+        ensures range { OnOk result (at + length out.old ≤ self.now.length) }
+        // It is refused exactly where the range passes the disk's length.
+        ensures beyond { IfErr result (λ e. (e ≡ OutOfDisk) × (self.now.length < at + length out.old)) }
+        ensures kept { OnErr result (out.new ≡ out.old) }
     {
-        self.spec.components[index].write
-    }
-
-    /// The last component that begins at or before a place, by binary search.
-    fn holder(&self, at: u64) -> usize
-        ensures is { result < length self.now.components }
-        ensures begins { begin_of self.now result ≤ at }
-        ensures later { result + 1 < length self.now.components → at < begin_of self.now (result + 1) }
-    {
-        let mut low = 0;
-        let mut high = self.spec.components.len();
-        while high - low > 1 {
-            let middle = low + (high - low) / 2;
-            if self.begin_of(middle) <= at {
-                low = middle;
-            } else {
-                high = middle;
-            }
+        let length = self.spec.length;
+        if at > length || length - at < out.len() as u64 {
+            return Err(MapFault::OutOfDisk);
         }
-        low
+        copy(&self.spec, files, at, out);
+        Ok(())
+    }
+
+    /// Writes the bytes to the disk from `at` on, into one file a component. Each component that they touch is
+    /// tested before a byte is changed. It takes no memory.
+    pub fn write(&self, files: &mut [Vec<u8>], at: u64, bytes: &[u8]) -> Result<(), MapFault>
+        requires { length files.old ≡ length self.now.components }
+        // It is refused exactly for the first reason, by the range and then by the touched components in order.
+        ensures judged { Judges self.now (contents files.old) at (at + length bytes.now) result }
+        // Just the bytes of the range change in the files.
+        ensures wrote { OnOk result (AreWritten self.now at bytes.now (contents files.old) (contents files.new)) }
+        // The disk has the bytes from `at` on.
+        ensures disk { OnOk result (disk_bytes self.now (contents files.new) ≡ take at (disk_bytes self.now (contents files.old)) ++ bytes.now ++ drop (at + length bytes.now) (disk_bytes self.now (contents files.old))) }
+        // After a refusal no file has changed.
+        ensures kept { OnErr result (files.new ≡ files.old) }
+    {
+        let length = self.spec.length;
+        if at > length || length - at < bytes.len() as u64 {
+            return Err(MapFault::OutOfDisk);
+        }
+        if bytes.is_empty() {
+            return Ok(());
+        }
+        match judge(&self.spec, files, at, at + bytes.len() as u64) {
+            Ok(()) => {}
+            Err(fault) => return Err(fault),
+        }
+        overwrite(&self.spec, files, at, bytes);
+        Ok(())
     }
 }

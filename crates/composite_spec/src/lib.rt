@@ -4,6 +4,8 @@
 mod kinds;
 mod reading;
 mod stated;
+#[cfg(test)]
+mod tests;
 mod wire;
 
 pub use crate::kinds::{Component, Spec, SpecFault};
