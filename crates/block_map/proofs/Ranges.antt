@@ -17,12 +17,12 @@ copied s files at done index n out new h same held short kept each before = λ i
     elim (cases_lt i done) [
       | inl less ↦ kept i less ∙ before i less
       | inr more ↦
-        let low : begin_of s index ≤ at + done = held.begins in
-        let high : at + done < end_of s index = held.ends in
-        let here : i ≡ done + (i - done) = omega arith in
-        let place : ((at + done) - begin_of s index) + (i - done) ≡ (at + i) - begin_of s index = omega arith in
-        ap (λ (k : ℕ). get_or new k 0) here ∙ each (i - done) (omega arith) ∙ ap (λ (k : ℕ). get_or (get_or files index []) k 0) place
-        ∙ sym (byte_in s files (at + i) index h same held.is (omega arith) (omega arith))
+          let low : begin_of s index ≤ at + done = held.begins in
+          let high : at + done < end_of s index = held.ends in
+          let here : i ≡ done + (i - done) = omega arith in
+          let place : ((at + done) - begin_of s index) + (i - done) ≡ (at + i) - begin_of s index = omega arith in
+          ap (λ (k : ℕ). get_or new k 0) here ∙ each (i - done) (omega arith) ∙ ap (λ (k : ℕ). get_or (get_or files index []) k 0) place
+          ∙ sym (byte_in s files (at + i) index h same held.is (omega arith) (omega arith))
     ]
 
 pub held_first : (s : Composite) (at index total : ℕ) → index < length s.components → begin_of s index ≤ at → (index + 1 < length s.components → at < begin_of s (index + 1)) → at + total ≤ s.length → 0 < total → Holds s (at + 0) index

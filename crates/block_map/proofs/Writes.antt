@@ -47,7 +47,7 @@ same_byte s at done n bytes i y old fits out =
         | inr low ↦ elim (cases_lt p (end_of s i)) [
           | inr past ↦ written_out s at (take done bytes) i y old (λ a b c. absurd (omega arith)) ∙ sym (written_out s at (take (done + n) bytes) i y old (λ a b c. absurd (omega arith)))
           | inl within ↦ written_in s at (take done bytes) i y old low (omega arith) within ∙ get_or-take done bytes (p - at) 0 (omega arith)
-            ∙ sym (written_in s at (take (done + n) bytes) i y old low (omega arith) within ∙ get_or-take (done + n) bytes (p - at) 0 (omega arith))
+              ∙ sym (written_in s at (take (done + n) bytes) i y old low (omega arith) within ∙ get_or-take (done + n) bytes (p - at) 0 (omega arith))
         ]
       ]
     ]
@@ -81,9 +81,9 @@ this_file s at done index bytes old cur new p fits held short room same is befor
         | inl less ↦ patched_before from p cur y room less ∙ before.each y lt ∙ same_byte s at done n bytes index y (get_or old y 0) fits (λ a b c. absurd (omega arith))
         | inr more ↦ elim (cases_lt y (from + n)) [
           | inl within ↦
-            let place : done + (y - from) ≡ (begin_of s index + y) - at = omega arith in
-            patched_in from p cur y room more within ∙ same (y - from) (omega arith) ∙ ap (λ (k : ℕ). get_or bytes k 0) place
-            ∙ sym (written_in s at (take (done + n) bytes) index y (get_or old y 0) (omega arith) (omega arith) (omega arith) ∙ get_or-take (done + n) bytes ((begin_of s index + y) - at) 0 (omega arith))
+              let place : done + (y - from) ≡ (begin_of s index + y) - at = omega arith in
+              patched_in from p cur y room more within ∙ same (y - from) (omega arith) ∙ ap (λ (k : ℕ). get_or bytes k 0) place
+              ∙ sym (written_in s at (take (done + n) bytes) index y (get_or old y 0) (omega arith) (omega arith) (omega arith) ∙ get_or-take (done + n) bytes ((begin_of s index + y) - at) 0 (omega arith))
           | inr past ↦ patched_after from p cur y room past ∙ before.each y lt ∙ same_byte s at done n bytes index y (get_or old y 0) fits (λ a b c. absurd (omega arith))
         ]
       ];
@@ -102,17 +102,17 @@ wrote_more s at done index bytes p old cur h count fits held short room same bef
       count = length-set cur index v ∙ before.count;
       files = λ i. elim (cases_lt i index) [
         | inl less ↦ other_file s at done index (length p) i bytes (get_or old i []) (get_or cur i []) (get_or (set cur index v) i []) fits (get_or-set_other cur index i v [] (λ e. absurd (omega arith)))
-          (λ y lt a b c. let k = end_before s i index h less within in absurd (omega arith)) (before.files i)
+            (λ y lt a b c. let k = end_before s i index h less within in absurd (omega arith)) (before.files i)
         | inr more ↦ elim (cases_lt index i) [
           | inl greater ↦ other_file s at done index (length p) i bytes (get_or old i []) (get_or cur i []) (get_or (set cur index v) i []) fits (get_or-set_other cur index i v [] (λ e. absurd (omega arith)))
-            (λ y lt a b c. elim (cases_lt i (length s.components)) [
-              | inl inside ↦ let k = end_before s index i h greater inside in absurd (omega arith)
-              | inr beyond ↦ let none : length (get_or old i []) ≡ 0 = ap length (get_or_past old i [] (omega arith)) in absurd (omega arith)
-            ]) (before.files i)
+              (λ y lt a b c. elim (cases_lt i (length s.components)) [
+                | inl inside ↦ let k = end_before s index i h greater inside in absurd (omega arith)
+                | inr beyond ↦ let none : length (get_or old i []) ≡ 0 = ap length (get_or_past old i [] (omega arith)) in absurd (omega arith)
+              ]) (before.files i)
           | inr no_greater ↦
-            let is : index ≡ i = omega arith in
-            subst (λ (k : ℕ). IsWritten s at (take (done + length p) bytes) k (get_or old k []) (get_or (set cur index v) k [])) is
-            (this_file s at done index bytes (get_or old index []) (get_or cur index []) (get_or (set cur index v) index []) p fits held short room same (get_or-set_same cur index v [] (omega arith)) (before.files index))
+              let is : index ≡ i = omega arith in
+              subst (λ (k : ℕ). IsWritten s at (take (done + length p) bytes) k (get_or old k []) (get_or (set cur index v) k [])) is
+              (this_file s at done index bytes (get_or old index []) (get_or cur index []) (get_or (set cur index v) index []) p fits held short room same (get_or-set_same cur index v [] (omega arith)) (before.files index))
         ]
       ];
     }
@@ -129,8 +129,8 @@ find s x (suc (suc k)) h few le some later =
     elim (cases_lt x (begin_of s (suc k))) [
       | inl less ↦ find s x (suc k) h few (omega arith) (omega arith) (λ lt. less)
       | inr more ↦
-        let next : suc (suc k) ≡ suc k + 1 = omega arith in
-        (suc k, holds_by s x (suc k) (omega arith) more (λ lt. subst (λ (j : ℕ). x < begin_of s j) next (later (omega arith))) few)
+          let next : suc (suc k) ≡ suc k + 1 = omega arith in
+          (suc k, holds_by s x (suc k) (omega arith) more (λ lt. subst (λ (j : ℕ). x < begin_of s j) next (later (omega arith))) few)
     ]
 
 pub holder_of : (s : Composite) (x : ℕ) → IsComposite s → x < s.length → (i : ℕ) × Holds s x i
@@ -182,10 +182,10 @@ byte_after s at bytes old new x h count range written may few =
       | inr from ↦ elim (cases_lt x (at + length bytes)) [
         | inr past ↦ file_kept s at bytes i y f g (written.files i) (λ a b. absurd (omega arith)) ∙ was ∙ sym (patched_after at bytes (disk_bytes s old) x fits past)
         | inl within ↦
-          let room = (may i held.is (record { is = held.is; some = omega arith; begins = omega arith; ends = omega arith })).fits in
-          let place : (begin_of s i + y) - at ≡ x - at = omega arith in
-          (written.files i).each y (omega arith) ∙ written_in s at bytes i y (get_or f y 0) (omega arith) (omega arith) (omega arith)
-          ∙ ap (λ (k : ℕ). get_or bytes k 0) place ∙ sym (patched_in at bytes (disk_bytes s old) x fits from within)
+            let room = (may i held.is (record { is = held.is; some = omega arith; begins = omega arith; ends = omega arith })).fits in
+            let place : (begin_of s i + y) - at ≡ x - at = omega arith in
+            (written.files i).each y (omega arith) ∙ written_in s at bytes i y (get_or f y 0) (omega arith) (omega arith) (omega arith)
+            ∙ ap (λ (k : ℕ). get_or bytes k 0) place ∙ sym (patched_in at bytes (disk_bytes s old) x fits from within)
       ]
     ]
 

@@ -6,5 +6,7 @@ mod bytes;
 mod map;
 mod moves;
 mod spans;
+#[cfg(test)]
+mod tests;
 
 pub use crate::map::{Map, MapFault};

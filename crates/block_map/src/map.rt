@@ -55,6 +55,20 @@ impl Map {
         }
     }
 
+    /// How many components there are, and so how many files a call needs.
+    pub fn components(&self) -> usize
+        ensures { result ≡ length self.now.components }
+    {
+        self.spec.components.len()
+    }
+
+    /// The bytes of the disk.
+    pub fn length(&self) -> u64
+        ensures { result ≡ self.now.length }
+    {
+        self.spec.length
+    }
+
     /// Reads the bytes of the disk from `at` on into all of `out`, from one file a component; past a file's end
     /// they are zeros. It takes no memory.
     pub fn read(&self, files: &[Vec<u8>], at: u64, out: &mut [u8]) -> Result<(), MapFault>

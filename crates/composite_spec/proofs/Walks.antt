@@ -1,5 +1,5 @@
 -- Fields read one after another.
-use Rattle.std.proofs.Common.{◌≡◌, ◌<◌, ◌≤◌, ◌+◌, ℕ, zero, suc, List, [], ◌∷◌, length, Result, Ok, Err, refl, sym, ap, ◌∙◌, arith}
+use Rattle.std.proofs.Common.{◌≡◌, ◌<◌, ◌≤◌, ℕ, zero, suc, List, [], ◌∷◌, length, Result, Ok, Err, refl, sym, ap, ◌∙◌, arith}
 use Rattle.composite_spec.specs.declared.kinds.SpecFault.{SpecFault}
 use Rattle.composite_spec.specs.declared.kinds.SpecFault.TheVariants as faults
 use Rattle.composite_spec.specs.Wire.{◌>>=◌}

@@ -1,4 +1,3 @@
 pub mod Said
 pub mod Wire
 pub mod Reading
-pub mod Grammar

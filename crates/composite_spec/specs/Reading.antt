@@ -1,15 +1,13 @@
 -- What the bytes of a composite file say, or the first rule that they break.
 use Rattle.std.specs.Prelude.{◌≡◌, ℕ, zero, suc, ◌+◌, ◌-◌, ◌%◌, ◌^◌, Bool, not, ◌&&◌, List, [], ◌∷◌, ◌++◌, length, map, take, drop, slice_index, Option, Some, None, Result, Ok, Err, ◌==◌, nat_lt, if◌then◌else◌, codes}
 use Rattle.std.specs.Str.{is_utf8, bytes_eq}
-use Rattle.composite_spec.specs.declared.kinds.Spec.{Spec}
-use Rattle.composite_spec.specs.declared.kinds.Component.{Component}
 use Rattle.composite_spec.specs.declared.kinds.SpecFault.{SpecFault}
 use Rattle.composite_spec.specs.declared.kinds.SpecFault.TheVariants as faults
 use Rattle.composite_spec.specs.declared.wire.Message.TheVariants as messages
 use Rattle.composite_spec.specs.declared.stated.Stated.{Stated}
 use Rattle.composite_spec.specs.declared.stated.StatedDisk.{StatedDisk}
-use Rattle.composite_spec.specs.Wire.{◌>>=◌, check, Content, counted, bytes_of, skipped, Field, field}
-use Rattle.composite_spec.specs.Said.{Placed, Composite, composite, placed, offset_of}
+use Rattle.composite_spec.specs.Wire.{◌>>=◌, check, Content, counted, bytes_of, skipped, field}
+use Rattle.composite_spec.specs.Said.{Placed, Composite}
 
 -- what the fields of a component, and of a disk, state, before any rule on it
 pub record Part : Type 0 where
@@ -27,6 +25,10 @@ part_by s = record { path = s.path.now; offset = s.offset; capability = s.capabi
 
 abbrev pub disk_by : StatedDisk → Disk
 disk_by d = record { version = d.version; parts = map part_by d.components.items; length = d.length }
+
+-- what a component states: its path, its offset, and whether it may be written
+abbrev pub stated : Placed → Part
+stated c = record { path = c.path; offset = c.offset; capability = if c.write then 1 else 0 }
 
 -- what no field states is 0 or empty
 abbrev pub no_part : Part

@@ -1,6 +1,6 @@
 -- Varints and fields (Protocol Buffers, "Encoding": "Base 128 Varints", "Message Structure"), read from the
 -- front of a message that ends at the place `end` of the file.
-use Rattle.std.specs.Prelude.{◌≡◌, ℕ, ◌+◌, ◌-◌, ◌*◌, ◌/◌, ◌%◌, ◌<◌, ◌^◌, Bool, false, true, ◌||◌, List, [], ◌∷◌, length, take, drop, Result, Ok, Err, MatchResult, ◌==◌, nat_lt, if◌then◌else◌}
+use Rattle.std.specs.Prelude.{◌≡◌, ℕ, ◌+◌, ◌-◌, ◌*◌, ◌/◌, ◌%◌, ◌^◌, Bool, false, ◌||◌, List, [], ◌∷◌, length, take, drop, Result, Ok, Err, ◌==◌, nat_lt, if◌then◌else◌}
 use Rattle.composite_spec.specs.declared.kinds.SpecFault.{SpecFault}
 use Rattle.composite_spec.specs.declared.kinds.SpecFault.TheVariants as faults
 use Rattle.composite_spec.specs.declared.wire.Message.{Message}

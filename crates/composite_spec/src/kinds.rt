@@ -1,8 +1,8 @@
 // What a composite file describes, and what can be wrong with one.
-use std::alloc::{AllocError, AllocFailed};
-
 ghost use Rattle.std.specs.Prelude.{◌≡◌};
 ghost use Rattle.composite_spec.specs.declared.kinds.SpecFault.TheVariants.{Memory};
+
+use std::alloc::{AllocError, AllocFailed};
 
 /// A component of a composite disk: the bytes of one file, from a place of the disk on.
 #[derive(Debug, Drop)]

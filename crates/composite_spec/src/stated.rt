@@ -129,11 +129,7 @@ fn with_disk_field<'a>(
 
 /// Takes the field at the front of the disk's message, and gives what is behind it.
 #[tactic(auto, unfolding(crate::specs::Reading::disk_step))]
-fn disk_step<'a>(
-    end: u64,
-    disk: &mut StatedDisk<'a>,
-    rest: &'a [u8],
-) -> Result<&'a [u8], SpecFault>
+fn disk_step<'a>(end: u64, disk: &mut StatedDisk<'a>, rest: &'a [u8]) -> Result<&'a [u8], SpecFault>
     requires { length rest.now ≤ end }
     ensures value { MatchResult result (λ x. disk_step end (disk_by disk.old) rest.now ≡ Ok (disk_by disk.new, x.now)) (λ f. Fails f (disk_step end (disk_by disk.old) rest.now)) }
     ensures shorter { IfOk result (λ x. length x.now < length rest.now) }

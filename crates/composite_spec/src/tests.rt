@@ -10,9 +10,15 @@ fn names_the_first_broken_rule(rt: HostRuntime) -> Result<(), Fail> {
     let table = [
         // One read-only component `a` at 0, length 4096; and with an unknown field behind it.
         (b"\x08\x02\x12\x03\x0a\x01a\x18\x80\x20".as_slice(), Ok(())),
-        (b"\x08\x02\x12\x03\x0a\x01a\x18\x80\x20\x20\x05".as_slice(), Ok(())),
+        (
+            b"\x08\x02\x12\x03\x0a\x01a\x18\x80\x20\x20\x05".as_slice(),
+            Ok(()),
+        ),
         // A later version replaces an earlier one.
-        (b"\x08\x07\x08\x02\x12\x03\x0a\x01a\x18\x80\x20".as_slice(), Ok(())),
+        (
+            b"\x08\x07\x08\x02\x12\x03\x0a\x01a\x18\x80\x20".as_slice(),
+            Ok(()),
+        ),
         (
             b"\x08\x02\x08\x07\x12\x03\x0a\x01a\x18\x80\x20".as_slice(),
             Err(SpecFault::Version { found: 7 }),
@@ -70,7 +76,11 @@ fn names_the_first_broken_rule(rt: HostRuntime) -> Result<(), Fail> {
 #[test]
 fn bounds_paths(rt: HostRuntime) -> Result<(), Fail> {
     let table = [
-        (0, b"\x12\x02\x0a\x00".as_slice(), Err(SpecFault::Path { index: 0 })),
+        (
+            0,
+            b"\x12\x02\x0a\x00".as_slice(),
+            Err(SpecFault::Path { index: 0 }),
+        ),
         (1, b"\x12\x03\x0a\x01".as_slice(), Ok(())),
         (255, b"\x12\x82\x02\x0a\xff\x01".as_slice(), Ok(())),
         (
@@ -104,7 +114,7 @@ fn bounds_components(rt: HostRuntime) -> Result<(), Fail> {
         (1025, Err(SpecFault::Order { index: 1024 })),
     ] {
         let mut bytes = MAGIC.to_vec(rt.alloc())?;
-        bytes.extend_from_slice(b"\x08\x02\x18\x80\x0a")?;
+        bytes.extend_from_slice(b"\x08\x02\x18\x80\x0c")?;
         for i in 0..count {
             bytes.extend_from_slice(b"\x12\x06\x0a\x01p\x10")?;
             bytes.push((i % 128) as u8 + 128)?;

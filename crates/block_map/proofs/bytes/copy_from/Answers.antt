@@ -16,10 +16,10 @@ padded file from n b h k is_b is_h lt =
     let size : length piece ≡ h = omega (arith, length-take ((b + h) - b) (drop b file), length-drop b file) in
     elim (cases_lt k h) [
       | inl less ↦
-        let same : b + k ≡ from + k = omega arith in
-        get_or_append_left piece (replicate (n - length piece) 0) 0 k (omega arith) ∙ get_or-take ((b + h) - b) (drop b file) k 0 (omega arith) ∙ get_or-drop b file k 0 ∙ ap (λ (i : ℕ). get_or file i 0) same
+          let same : b + k ≡ from + k = omega arith in
+          get_or_append_left piece (replicate (n - length piece) 0) 0 k (omega arith) ∙ get_or-take ((b + h) - b) (drop b file) k 0 (omega arith) ∙ get_or-drop b file k 0 ∙ ap (λ (i : ℕ). get_or file i 0) same
       | inr more ↦
-        get_or-append_right piece (replicate (n - length piece) 0) h k 0 size more ∙ zeros (n - length piece) (k - h) ∙ sym (get_or_past file (from + k) 0 (omega arith))
+          get_or-append_right piece (replicate (n - length piece) 0) h k 0 size more ∙ zeros (n - length piece) (k - h) ∙ sym (get_or_past file (from + k) 0 (omega arith))
     ]
 
 pub returns : goal.returns

@@ -24,6 +24,6 @@ loop-done-preserved c =
       within = omega arith;
       here = λ lt. held_next s at done index n (length c.loop-done.out) c.requires.is held size (omega (arith, c.requires.range)) (omega (arith, lt, c.copy_part.auto.out));
       so_far = copied s (contents files) at done index n c.loop-done.out c.copy_part.new.out c.requires.is (files_count files ∙ c.requires.files) held (omega arith) c.copy_part.ensures.before
-        (λ k lt. c.copy_part.ensures.part k lt ∙ ap (λ (x : List ℕ). get_or x (((at + done) - c.begin_of.result) + k) 0) (c.as_slice.ensures.value ∙ sym file) ∙ ap (λ (x : ℕ). get_or (get_or (contents files) index []) (x + k) 0) from)
-        c.loop-done.invariant.so_far;
+          (λ k lt. c.copy_part.ensures.part k lt ∙ ap (λ (x : List ℕ). get_or x (((at + done) - c.begin_of.result) + k) 0) (c.as_slice.ensures.value ∙ sym file) ∙ ap (λ (x : ℕ). get_or (get_or (contents files) index []) (x + k) 0) from)
+          c.loop-done.invariant.so_far;
     }

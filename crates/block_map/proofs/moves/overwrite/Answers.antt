@@ -49,15 +49,15 @@ loop-done-preserved c =
     let room = room_in s (contents c.args.files.now) at done index (length bytes) held c.loop-done-test.true c.requires.may in
     let kept = (c.loop-done.invariant.wrote.files index).size in
     let more = wrote_more s at done index bytes p (contents c.args.files.now) (contents files) c.requires.is (files_count c.args.files.now ∙ c.requires.files) (omega arith) held (omega arith) (omega arith)
-      (λ k lt. get_or-take (done + n - done) (drop done bytes) k 0 (omega arith) ∙ get_or-drop done bytes k 0) c.loop-done.invariant.wrote in
+    (λ k lt. get_or-take (done + n - done) (drop done bytes) k 0 (omega arith) ∙ get_or-drop done bytes k 0) c.loop-done.invariant.wrote in
     let from : (at + done) - c.begin_of.result ≡ (at + done) - begin_of s index = ap (λ (x : ℕ). (at + done) - x) c.begin_of.ensures in
     let items : c.put.new.file.items ≡ patched ((at + done) - begin_of s index) p (get_or (contents files) index []) =
-        c.put.ensures ∙ ap (λ (x : ℕ). patched x p (get_or files index c.index-files-index.result).items) from
-        ∙ ap (λ (x : List ℕ). patched ((at + done) - begin_of s index) p x) (sym (ap (λ (x : Vec ℕ). x.items) c.index-files-index.is) ∙ sym file) in
+    c.put.ensures ∙ ap (λ (x : ℕ). patched x p (get_or files index c.index-files-index.result).items) from
+    ∙ ap (λ (x : List ℕ). patched ((at + done) - begin_of s index) p x) (sym (ap (λ (x : Vec ℕ). x.items) c.index-files-index.is) ∙ sym file) in
     let whole = map-set (λ (v : Vec ℕ). v.items) files index c.put.new.file ∙ ap (λ (x : List ℕ). set (contents files) index x) items in
     record {
       within = omega arith;
       here = λ lt. held_next s at done index n (length bytes) c.requires.is held size c.requires.range lt;
       wrote = subst (λ (x : List (List ℕ)). AreWritten s at (take (done + n) bytes) (contents c.args.files.now) x) (sym whole)
-        (subst (λ (m : ℕ). AreWritten s at (take (done + m) bytes) (contents c.args.files.now) (set (contents files) index (patched ((at + done) - begin_of s index) p (get_or (contents files) index [])))) long more);
+          (subst (λ (m : ℕ). AreWritten s at (take (done + m) bytes) (contents c.args.files.now) (set (contents files) index (patched ((at + done) - begin_of s index) p (get_or (contents files) index [])))) long more);
     }

@@ -1,6 +1,5 @@
-use Rattle.std.proofs.Common.{◌≡◌, ◌+◌, ◌++◌, ◌∷◌, [], List, ℕ, map, drop, get_or, length, None, ap, sym, subst, ◌∙◌, arith, length-drop, Some}
+use Rattle.std.proofs.Common.{◌≡◌, ◌+◌, ◌++◌, ◌∷◌, [], List, ℕ, map, drop, get_or, None, ap, sym, subst, ◌∙◌, arith, length-drop, Some}
 use Rattle.std.proofs.lemmas.List.{map-append, length-map}
-use Rattle.composite_spec.specs.declared.kinds.Component.{Component}
 use Rattle.composite_spec.specs.declared.stated.Stated.{Stated}
 use Rattle.composite_spec.specs.Said.{Placed, placed}
 use Rattle.composite_spec.specs.Reading.{Part, part_by, all_placed}

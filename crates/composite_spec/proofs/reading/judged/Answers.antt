@@ -1,7 +1,6 @@
-use Rattle.std.proofs.Common.{◌≡◌, List, ℕ, true, false, None, Ok, map, Result, ap, sym, ◌∙◌}
-use Rattle.composite_spec.specs.declared.kinds.SpecFault.{SpecFault}
+use Rattle.std.proofs.Common.{◌≡◌, List, true, false, None, Ok, map, ap, sym, ◌∙◌}
 use Rattle.composite_spec.specs.declared.stated.Stated.{Stated}
-use Rattle.composite_spec.specs.Said.{Placed, placed}
+use Rattle.composite_spec.specs.Said.{placed}
 use Rattle.composite_spec.specs.Reading.{part_by, disk_by, is_length, all_placed, stated_offset}
 use Rattle.composite_spec.proofs.Rules.{judged_ok, judged_long, offsets_are}
 use Rattle.composite_spec.proofs.reading.judged.Goals as goal

@@ -1,4 +1,4 @@
-use Rattle.std.proofs.Common.{◌<◌, ℕ, length, List, map, arith, rules, subst, sym}
+use Rattle.std.proofs.Common.{◌<◌, length, List, map, arith, rules, subst, sym}
 use Rattle.composite_spec.specs.declared.stated.Stated.{Stated}
 use Rattle.composite_spec.specs.Reading.{part_by, disk_by, no_disk, disk_step, disk_of}
 use Rattle.composite_spec.proofs.Walks.{Walks, begins, goes_on, stops_fails, ends}

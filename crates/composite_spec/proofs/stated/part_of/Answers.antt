@@ -1,4 +1,4 @@
-use Rattle.std.proofs.Common.{◌<◌, ℕ, length, arith, rules, ◌∙◌, refl}
+use Rattle.std.proofs.Common.{◌<◌, length, arith, rules}
 use Rattle.composite_spec.specs.Reading.{part_by, no_part, part_step, part_of}
 use Rattle.composite_spec.proofs.Walks.{begins, goes_on, stops, ends}
 use Rattle.composite_spec.proofs.stated.part_of.Goals as goal
