@@ -1,8 +1,8 @@
 -- Where components begin and end, and which of them holds a byte.
-use Rattle.std.proofs.Common.{◌≡◌, ◌<◌, ◌≤◌, ◌+◌, ◌-◌, ℕ, zero, suc, List, [], ◌∷◌, length, map, get_or, Bool, true, false, cond, ltb, Option, Some, None, refl, sym, ap, ◌∙◌, subst, arith, inl, inr}
+use Rattle.std.proofs.Common.{◌≡◌, ◌<◌, ◌≤◌, ◌+◌, ◌-◌, ℕ, zero, suc, List, [], ◌∷◌, length, map, get_or, cond, ltb, Option, Some, None, refl, sym, ◌∙◌, subst, arith, inl, inr}
 use Rattle.std.proofs.lemmas.Bool.{lt-ltb, le-ltb, cases_lt}
 use Rattle.std.proofs.lemmas.List.{length-map}
-use Rattle.composite_spec.specs.Said.{Placed, Composite, IsComposite, IsLength, Rise, Follows, offset_of}
+use Rattle.composite_spec.specs.Said.{Placed, Composite, IsComposite, Rise, offset_of}
 use Rattle.block_map.specs.Disk.{byte_at, begin_of, end_of}
 
 rise_above : (before : ℕ) (os : List ℕ) (i : ℕ) → Rise (Some before) os → i < length os → before < get_or os i 0

@@ -1,8 +1,8 @@
 -- A range of the disk, one component after another.
-use Rattle.std.proofs.Common.{◌≡◌, ◌<◌, ◌≤◌, ◌+◌, ◌-◌, ℕ, List, [], length, get_or, min, true, refl, sym, ap, subst, ◌∙◌, arith, inl, inr}
+use Rattle.std.proofs.Common.{◌≡◌, ◌<◌, ◌≤◌, ◌+◌, ◌-◌, ℕ, List, [], length, get_or, min, true, sym, ap, subst, ◌∙◌, arith, inl, inr}
 use Rattle.std.proofs.lemmas.Bool.{cases_lt}
 use Rattle.composite_spec.specs.Said.{Composite, IsComposite}
-use Rattle.block_map.specs.Disk.{byte_at, begin_of, end_of, is_writable, IsTouched, MayWrite, MayWriteBelow, Fits}
+use Rattle.block_map.specs.Disk.{byte_at, begin_of, end_of, is_writable, MayWrite, MayWriteBelow, Fits}
 use Rattle.block_map.proofs.Offsets.{Holds, holds_by, holds_next, byte_in, begin_end, begin_lt, end_before}
 
 abbrev pub SoFar : Composite → List (List ℕ) → ℕ → List ℕ → ℕ → Type 0

@@ -1,12 +1,11 @@
 -- Bytes written into the files, one component after another.
-use Rattle.std.proofs.Common.{◌≡◌, ◌<◌, ◌≤◌, ◌+◌, ◌-◌, ◌++◌, ℕ, zero, suc, List, [], length, map, get_or, take, drop, min, true, false, refl, sym, ap, subst, ◌∙◌, arith, inl, inr, length-append, length-take, length-drop}
+use Rattle.std.proofs.Common.{◌≡◌, ◌<◌, ◌≤◌, ◌+◌, ◌-◌, ◌++◌, ℕ, zero, suc, List, [], length, get_or, take, drop, refl, sym, ap, subst, ◌∙◌, arith, inl, inr, length-append, length-take, length-drop}
 use Rattle.std.proofs.Math.ListN.{set}
-use Rattle.std.specs.List.{range_with_len}
 use Rattle.std.proofs.lemmas.Bool.{lt-ltb, le-ltb, cases_lt}
 use Rattle.std.proofs.lemmas.List.{ext_get_or, get_or_past, get_or-take, get_or-drop, get_or-set_same, get_or-set_other, length-set}
 use Rattle.std.proofs.lemmas.List.FromFn.{get_or-map-range_with_len, length-map-range_with_len}
 use Rattle.composite_spec.specs.Said.{Composite, IsComposite}
-use Rattle.block_map.specs.Disk.{byte_at, disk_bytes, begin_of, end_of, byte_written, IsWritten, AreWritten, IsTouched, MayWriteBelow}
+use Rattle.block_map.specs.Disk.{byte_at, disk_bytes, begin_of, end_of, byte_written, IsWritten, AreWritten, MayWriteBelow}
 use Rattle.block_map.proofs.Offsets.{Holds, holds_by, byte_in, begins_first, some_component, end_before}
 use Rattle.block_map.proofs.Patches.{patched, patched_before, patched_in, patched_after, patched_length}
 

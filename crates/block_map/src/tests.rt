@@ -1,11 +1,16 @@
 // The worked rows.
+ghost use Rattle.std.specs.Prelude.{IfOk};
+ghost use Rattle.composite_spec.specs.Said.{IsComposite, composite};
+
 use crate::{Map, MapFault};
 use composite_spec::{Spec, read_spec};
 use std::alloc::Global;
 use std::test::Fail;
 
 /// `a` at 0, read only, and `b`, or `a` once more, at 512, writable, of a disk of 1,024 bytes.
-fn two(alloc: Global, second: u8) -> Result<Spec, Fail> {
+fn two(alloc: Global, second: u8) -> Result<Spec, Fail>
+    ensures { IfOk result (λ s. IsComposite (composite s)) }
+{
     let mut bytes = b"composite_disk\x1d\x08\x02\x12\x03\x0a\x01a\x12\x08\x0a\x01".to_vec(alloc)?;
     bytes.push(second)?;
     bytes.extend_from_slice(b"\x10\x80\x04\x18\x01\x18\x80\x08")?;

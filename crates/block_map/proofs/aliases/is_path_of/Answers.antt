@@ -1,4 +1,4 @@
-use Rattle.std.proofs.Common.{◌≡◌, [], ℕ, List, get_or, map, sym, ap, ◌∙◌, arith}
+use Rattle.std.proofs.Common.{[], ℕ, List, get_or, map, sym, ap, ◌∙◌, arith}
 use Rattle.std.specs.Str.{bytes_eq}
 use Rattle.composite_spec.specs.Said.{composite}
 use Rattle.block_map.specs.Disk.{path_of}

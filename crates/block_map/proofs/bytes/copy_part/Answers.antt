@@ -1,4 +1,4 @@
-use Rattle.std.proofs.Common.{◌≡◌, ◌+◌, ◌∙◌, arith, length-take, length-drop, ℕ}
+use Rattle.std.proofs.Common.{◌∙◌, arith, length-take, length-drop, ℕ}
 use Rattle.block_map.proofs.Patches.{spliced_before, spliced_in}
 use Rattle.block_map.proofs.bytes.copy_part.Goals as goal
 

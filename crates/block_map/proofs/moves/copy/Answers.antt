@@ -1,7 +1,6 @@
-use Rattle.std.proofs.Common.{◌≡◌, ◌<◌, ◌≤◌, ◌+◌, ◌-◌, ℕ, List, [], length, map, get_or, ap, sym, subst, ◌∙◌, arith}
-use Rattle.std.proofs.lemmas.List.{length-map}
+use Rattle.std.proofs.Common.{◌≡◌, ◌+◌, ◌-◌, ℕ, List, [], length, get_or, ap, sym, ◌∙◌, arith}
 use Rattle.composite_spec.specs.Said.{Composite, composite}
-use Rattle.block_map.specs.Disk.{contents, begin_of, end_of}
+use Rattle.block_map.specs.Disk.{contents, begin_of}
 use Rattle.block_map.proofs.Offsets.{Holds}
 use Rattle.block_map.proofs.Components.{file_at, files_count}
 use Rattle.block_map.proofs.Ranges.{copied, held_next}

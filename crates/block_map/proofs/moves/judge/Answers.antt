@@ -1,6 +1,6 @@
-use Rattle.std.proofs.Common.{◌≡◌, ◌<◌, ◌≤◌, ◌+◌, ◌-◌, ℕ, List, [], length, get_or, min, ap, sym, subst, ◌∙◌, arith}
+use Rattle.std.proofs.Common.{◌≡◌, ◌<◌, ◌≤◌, ℕ, [], length, get_or, ap, sym, subst, ◌∙◌, arith}
 use Rattle.composite_spec.specs.Said.{Composite, composite}
-use Rattle.block_map.specs.Disk.{contents, begin_of, end_of, is_writable, Fits}
+use Rattle.block_map.specs.Disk.{contents, begin_of, Fits}
 use Rattle.block_map.proofs.Offsets.{holds_by, begin_end}
 use Rattle.block_map.proofs.Components.{file_at, same_count}
 use Rattle.block_map.proofs.Ranges.{none_before, one_more, none_after, ahead_next}

@@ -1,9 +1,9 @@
-use Rattle.std.proofs.Common.{◌≡◌, ◌<◌, ◌≤◌, ◌+◌, ◌-◌, ◌++◌, ℕ, List, [], length, map, get_or, take, drop, min, ap, sym, subst, ◌∙◌, arith, length-take, length-drop}
+use Rattle.std.proofs.Common.{◌≡◌, ◌≤◌, ◌+◌, ◌-◌, ℕ, List, [], length, get_or, take, drop, ap, sym, subst, ◌∙◌, arith, length-take, length-drop}
 use Rattle.std.specs.Global.{Vec}
 use Rattle.std.proofs.Math.ListN.{set}
 use Rattle.std.proofs.lemmas.List.{map-set, get_or-take, get_or-drop}
 use Rattle.composite_spec.specs.Said.{Composite, composite}
-use Rattle.block_map.specs.Disk.{contents, begin_of, end_of, IsTouched, AreWritten}
+use Rattle.block_map.specs.Disk.{contents, begin_of, AreWritten}
 use Rattle.block_map.proofs.Offsets.{Holds}
 use Rattle.block_map.proofs.Components.{file_at, files_count}
 use Rattle.block_map.proofs.Ranges.{held_next, room_in}

@@ -1,4 +1,4 @@
-use Rattle.std.proofs.Common.{◌≡◌, ◌<◌, ◌≤◌, ◌+◌, ◌-◌, length, take}
+use Rattle.std.proofs.Common.{◌<◌, ◌≤◌, ◌+◌, ◌-◌, length, take}
 use Rattle.composite_spec.specs.Said.{composite}
 use Rattle.block_map.specs.Disk.{contents, AreWritten}
 use Rattle.block_map.proofs.Offsets.{Holds}

@@ -1,4 +1,4 @@
-use Rattle.std.proofs.Common.{◌≡◌, sym, arith}
+use Rattle.std.proofs.Common.{sym, arith}
 use Rattle.composite_spec.specs.Said.{offset_of}
 use Rattle.block_map.proofs.Components.{at_placed, same_count}
 use Rattle.block_map.proofs.spans.begin_of.Goals as goal

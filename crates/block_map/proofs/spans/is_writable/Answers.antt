@@ -1,4 +1,4 @@
-use Rattle.std.proofs.Common.{◌≡◌, sym, false, arith}
+use Rattle.std.proofs.Common.{sym, false, arith}
 use Rattle.block_map.specs.Disk.{write_of}
 use Rattle.block_map.proofs.Components.{at_placed, same_count}
 use Rattle.block_map.proofs.spans.is_writable.Goals as goal

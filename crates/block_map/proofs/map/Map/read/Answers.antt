@@ -1,4 +1,4 @@
-use Rattle.std.proofs.Common.{◌≡◌, ◌≤◌, ◌+◌, ◌<◌, ℕ, List, length, take, drop, get_or, sym, subst, arith}
+use Rattle.std.proofs.Common.{◌≡◌, ℕ, List, length, take, drop, subst, arith}
 use Rattle.composite_spec.specs.Said.{Composite, composite}
 use Rattle.block_map.specs.Disk.{contents, disk_bytes}
 use Rattle.block_map.proofs.Writes.{copied_range}
