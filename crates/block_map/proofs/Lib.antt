@@ -1,0 +1,5 @@
+pub mod Offsets
+pub mod Patches
+pub mod Components
+pub mod Ranges
+pub mod Writes

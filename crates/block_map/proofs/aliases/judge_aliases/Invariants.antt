@@ -1,0 +1,6 @@
+use Rattle.composite_spec.specs.Said.{composite}
+use Rattle.block_map.specs.Disk.{NoAliasBelow}
+use Rattle.block_map.proofs.aliases.judge_aliases.Given as goal
+
+abbrev pub invariant-loop-b : goal.invariant-loop-b
+invariant-loop-b l = NoAliasBelow (composite l.spec) l.b

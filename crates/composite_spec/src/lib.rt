@@ -1,0 +1,12 @@
+//! The composite file: which files make up a disk, and where each of them begins on it.
+#![tactic(auto)]
+
+mod kinds;
+mod reading;
+mod stated;
+#[cfg(test)]
+mod tests;
+mod wire;
+
+pub use crate::kinds::{Component, Spec, SpecFault};
+pub use crate::reading::read_spec;

@@ -1,0 +1,130 @@
+// The worked rows, and edges that no clause names.
+use crate::{SpecFault, read_spec};
+use std::test::Fail;
+
+const MAGIC: &[u8; 15] = b"composite_disk\x1d";
+
+// What stands behind the magic, and what reading the file answers.
+#[test]
+fn names_the_first_broken_rule(rt: HostRuntime) -> Result<(), Fail> {
+    let table = [
+        // One read-only component `a` at 0, length 4096; and with an unknown field behind it.
+        (b"\x08\x02\x12\x03\x0a\x01a\x18\x80\x20".as_slice(), Ok(())),
+        (
+            b"\x08\x02\x12\x03\x0a\x01a\x18\x80\x20\x20\x05".as_slice(),
+            Ok(()),
+        ),
+        // A later version replaces an earlier one.
+        (
+            b"\x08\x07\x08\x02\x12\x03\x0a\x01a\x18\x80\x20".as_slice(),
+            Ok(()),
+        ),
+        (
+            b"\x08\x02\x08\x07\x12\x03\x0a\x01a\x18\x80\x20".as_slice(),
+            Err(SpecFault::Version { found: 7 }),
+        ),
+        (
+            b"\x08\xff\xff\xff\xff\xff\xff\xff\xff\xff\xff\xff".as_slice(),
+            Err(SpecFault::Varint { at: 16 }),
+        ),
+        (
+            b"\x08\x02\x12\xff\xff\xff\xff\xff\xff\xff\xff\xff\x01".as_slice(),
+            Err(SpecFault::Truncated { at: 18 }),
+        ),
+        (
+            b"\x08\x02\x12\x03\x0a\x05a".as_slice(),
+            Err(SpecFault::Truncated { at: 20 }),
+        ),
+        (b"\x0b".as_slice(), Err(SpecFault::Wire { at: 15 })),
+        (
+            b"\x08\x02\x12\x03\x0a\x01a\x18\x80\x84\x80\x80\x80\x20".as_slice(),
+            Err(SpecFault::Length {
+                found: 1_099_511_628_288,
+            }),
+        ),
+        (
+            b"\x08\x02\x12\x05\x0a\x01a\x18\x02\x18\x80\x20".as_slice(),
+            Err(SpecFault::Capability { index: 0, found: 2 }),
+        ),
+        (
+            b"\x08\x02\x12\x05\x0a\x01a\x10\x01\x18\x80\x20".as_slice(),
+            Err(SpecFault::Order { index: 0 }),
+        ),
+        (
+            b"\x08\x02\x12\x04\x0a\x02\xc3\xa9\x18\x80\x20".as_slice(),
+            Ok(()),
+        ),
+        (
+            b"\x08\x02\x12\x04\x0a\x02\xc3\x28\x18\x80\x20".as_slice(),
+            Err(SpecFault::Path { index: 0 }),
+        ),
+    ];
+    for (tail, want) in table {
+        let mut bytes = MAGIC.to_vec(rt.alloc())?;
+        bytes.extend_from_slice(tail)?;
+        let found = match read_spec(rt.alloc(), bytes.as_slice()) {
+            Ok(_) => Ok(()),
+            Err(fault) => Err(fault),
+        };
+        assert_eq!(rt; found, want, "{tail:?}");
+    }
+    assert!(rt; read_spec(rt.alloc(), b"composite_disk").is_err());
+    Ok(())
+}
+
+// Paths of so many bytes, behind the lengths of their component and of the path.
+#[test]
+fn bounds_paths(rt: HostRuntime) -> Result<(), Fail> {
+    let table = [
+        (
+            0,
+            b"\x12\x02\x0a\x00".as_slice(),
+            Err(SpecFault::Path { index: 0 }),
+        ),
+        (1, b"\x12\x03\x0a\x01".as_slice(), Ok(())),
+        (255, b"\x12\x82\x02\x0a\xff\x01".as_slice(), Ok(())),
+        (
+            256,
+            b"\x12\x83\x02\x0a\x80\x02".as_slice(),
+            Err(SpecFault::Path { index: 0 }),
+        ),
+    ];
+    for (n, front, want) in table {
+        let mut bytes = MAGIC.to_vec(rt.alloc())?;
+        bytes.extend_from_slice(b"\x08\x02")?;
+        bytes.extend_from_slice(front)?;
+        for _ in 0..n {
+            bytes.push(b'p')?;
+        }
+        bytes.extend_from_slice(b"\x18\x80\x20")?;
+        let found = match read_spec(rt.alloc(), bytes.as_slice()) {
+            Ok(_) => Ok(()),
+            Err(fault) => Err(fault),
+        };
+        assert_eq!(rt; found, want, "{n}");
+    }
+    Ok(())
+}
+
+// So many components, one at each byte.
+#[test]
+fn bounds_components(rt: HostRuntime) -> Result<(), Fail> {
+    for (count, want) in [
+        (1024u32, Ok(())),
+        (1025, Err(SpecFault::Order { index: 1024 })),
+    ] {
+        let mut bytes = MAGIC.to_vec(rt.alloc())?;
+        bytes.extend_from_slice(b"\x08\x02\x18\x80\x0c")?;
+        for i in 0..count {
+            bytes.extend_from_slice(b"\x12\x06\x0a\x01p\x10")?;
+            bytes.push((i % 128) as u8 + 128)?;
+            bytes.push(u8::try_from(i / 128)?)?;
+        }
+        let found = match read_spec(rt.alloc(), bytes.as_slice()) {
+            Ok(_) => Ok(()),
+            Err(fault) => Err(fault),
+        };
+        assert_eq!(rt; found, want, "{count}");
+    }
+    Ok(())
+}
