@@ -13,7 +13,7 @@ use Rattle.guest_cli.specs.declared.status.Status.TheVariants.{PlanFault, FileFa
 use Rattle.guest_cli.specs.Planned.{items_of, first_unbuilt}
 use Rattle.guest_cli.specs.declared.session.SessionEnd.{SessionEnd}
 use Rattle.guest_cli.specs.Session.{IsSession}
-use Rattle.guest_cli.specs.Replay.{IsThere, IsLong, PassesLimit, PlanRead, PlanBroken, PlanUnbuilt, TapeBroken, FileCause, Streams, Quiet, Replayed, status_of}
+use Rattle.guest_cli.specs.Replay.{IsThere, IsLong, PassesLimit, IsNext, PlanRead, PlanBroken, PlanUnbuilt, TapeBroken, FileCause, Streams, Quiet, Replayed, status_of}
 
 -- the whole file, counted among those that were loaded
 pub record IsLoaded (files : Option Files) (name : List ℕ) (before now : ℕ) (bytes : List ℕ) : Type 0 where
@@ -75,7 +75,7 @@ pub record IsReady (files : Option Files) (plan_name tape_name entropy_name : Li
 -- why they were not
 abbrev pub InputsFail : Option Files → List ℕ → List ℕ → List ℕ → Status → Type 0
 InputsFail files plan tape entropy (PlanFault line kind) = PlanBroken files plan line kind
-InputsFail files plan tape entropy (FileFault name) = (string_bytes name ≡ plan) ⊎ (string_bytes name ≡ tape) ⊎ (string_bytes name ≡ entropy)
+InputsFail files plan tape entropy (FileFault name) = IsNext files plan tape entropy (string_bytes name)
 InputsFail files plan tape entropy (TapeFault at) = PlanRead files plan × TapeBroken files tape at
 InputsFail files plan tape entropy TooMuch = PassesLimit files plan tape entropy
 InputsFail files plan tape entropy Memory = Unit {0}

@@ -61,9 +61,6 @@ pub record AreLong (files : Option Files) (plan tape entropy : List ℕ) : Type 
   pub third_there : IsThere files entropy third
   pub long : 2 ^ 31 < length first + length second + length third
 
-abbrev pub PassesLimit : Option Files → List ℕ → List ℕ → List ℕ → Type 0
-PassesLimit files plan tape entropy = IsLong files plan ⊎ IsLong files tape ⊎ IsLong files entropy ⊎ AreLong files plan tape entropy
-
 -- the plan was read, and asks for nothing that isn't served yet
 pub record PlanRead (files : Option Files) (name : List ℕ) : Type 0 where
   pub text : List ℕ
@@ -71,6 +68,21 @@ pub record PlanRead (files : Option Files) (name : List ℕ) : Type 0 where
   pub plan : Known
   pub is : plan_of text ≡ Ok plan
   pub built : first_unbuilt plan ≡ None
+
+-- the tape was read
+pub record TapeRead (files : Option Files) (name : List ℕ) : Type 0 where
+  pub text : List ℕ
+  pub there : IsThere files name text
+  pub records : List TapeItem
+  pub is : IsTape text records
+
+-- the file at which the folder failed: each is loaded once those before it were read
+abbrev pub IsNext : Option Files → List ℕ → List ℕ → List ℕ → List ℕ → Type 0
+IsNext files plan tape entropy name = (name ≡ plan) ⊎ ((name ≡ tape) × PlanRead files plan) ⊎ ((name ≡ entropy) × PlanRead files plan × TapeRead files tape)
+
+-- the file that passed a limit, likewise
+abbrev pub PassesLimit : Option Files → List ℕ → List ℕ → List ℕ → Type 0
+PassesLimit files plan tape entropy = IsLong files plan ⊎ (IsLong files tape × PlanRead files plan) ⊎ ((IsLong files entropy ⊎ AreLong files plan tape entropy) × PlanRead files plan × TapeRead files tape)
 
 -- what a session that ended so is as a status
 abbrev pub status_of : Result (Unit {0}) SessionEnd → Status
@@ -130,7 +142,7 @@ pub record TapeBroken (files : Option Files) (name : List ℕ) (at : ℕ) : Type
 abbrev pub Replays : Option Files → List ℕ → List ℕ → List ℕ → Streams → Streams → Status → Type 0
 Replays files plan tape entropy old new Usage = ⊥
 Replays files plan tape entropy old new (PlanFault line kind) = PlanBroken files plan line kind × Quiet old new
-Replays files plan tape entropy old new (FileFault name) = ((string_bytes name ≡ plan) ⊎ (string_bytes name ≡ tape) ⊎ (string_bytes name ≡ entropy)) × Quiet old new
+Replays files plan tape entropy old new (FileFault name) = IsNext files plan tape entropy (string_bytes name) × Quiet old new
 Replays files plan tape entropy old new (TapeFault at) = PlanRead files plan × TapeBroken files tape at × Quiet old new
 Replays files plan tape entropy old new TooMuch = (PassesLimit files plan tape entropy × Quiet old new) ⊎ Sat files plan tape entropy old new TooMuch
 Replays files plan tape entropy old new Memory = Quiet old new

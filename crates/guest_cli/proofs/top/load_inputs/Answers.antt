@@ -1,8 +1,16 @@
-use Rattle.std.proofs.Common.{◌≡◌, subst, sym, ap}
+use Rattle.std.proofs.Common.{◌≡◌, ℕ, ◌+◌, ◌≤◌, length, arith, subst, sym, ap}
 use Rattle.guest_plan.specs.Plans.{known}
-use Rattle.guest_cli.specs.Replay.{IsThere}
-use Rattle.guest_cli.proofs.Loading.{taped_fails}
+use Rattle.guest_cli.specs.Replay.{IsThere, PlanRead}
+use Rattle.guest_cli.proofs.Loading.{taped_fails, tape_fails, entropy_fails}
 use Rattle.guest_cli.proofs.top.load_inputs.Goals as goal
+
+pub returns-in-Err-load-clause-err : goal.returns-in-Err-load-clause-err
+returns-in-Err-load-clause-err g c =
+    let text = c.deref.ensures.value in
+    tape_fails _ c.args.plan.now c.args.tape.now c.args.entropy.now _ c.in-Err-load.status
+    (record { text = c.in-Ok.text.items; there = c.in-Ok.ensures.ok.there; plan = known c.in-Ok-planned.plan; is = (rw text at c.in-Ok-planned.ensures).0; built = (rw text at c.in-Ok-planned.ensures).1 })
+    (omega (arith, c.in-Ok.ensures.ok.count, c.in-Ok.ensures.ok.few))
+    (rw c.in-Ok.ensures.files at c.in-Err-load.ensures.err)
 
 pub returns-in-Err-taped-clause-err : goal.returns-in-Err-taped-clause-err
 returns-in-Err-taped-clause-err g c =
@@ -10,3 +18,14 @@ returns-in-Err-taped-clause-err g c =
     taped_fails _ c.args.plan.now c.args.tape.now c.args.entropy.now c.in-Ok-load.bytes.items c.in-Err-taped.status
     (record { text = c.in-Ok.text.items; there = c.in-Ok.ensures.ok.there; plan = known c.in-Ok-planned.plan; is = (rw text at c.in-Ok-planned.ensures).0; built = (rw text at c.in-Ok-planned.ensures).1 })
     (rw c.in-Ok.ensures.files at c.in-Ok-load.ensures.ok.there) c.in-Err-taped.ensures
+
+pub returns-in-Err-load-2-clause-err : goal.returns-in-Err-load-2-clause-err
+returns-in-Err-load-2-clause-err g c =
+    let text = c.deref.ensures.value in
+    let there = rw c.in-Ok.ensures.files at c.in-Ok-load.ensures.ok.there in
+    entropy_fails _ c.args.plan.now c.args.tape.now c.args.entropy.now c.in-Ok.text.items c.in-Ok-load.bytes.items _ c.in-Err-load-2.status
+    (record { text = c.in-Ok.text.items; there = c.in-Ok.ensures.ok.there; plan = known c.in-Ok-planned.plan; is = (rw text at c.in-Ok-planned.ensures).0; built = (rw text at c.in-Ok-planned.ensures).1 })
+    (record { text = c.in-Ok-load.bytes.items; there = there; records = c.in-Ok-taped.tape.records; is = c.in-Ok-taped.ensures.0 })
+    c.in-Ok.ensures.ok.there there
+    (omega (arith, c.in-Ok.ensures.ok.count, c.in-Ok-load.ensures.ok.count))
+    (rw (c.in-Ok-load.ensures.files, c.in-Ok.ensures.files) at c.in-Err-load-2.ensures.err)
