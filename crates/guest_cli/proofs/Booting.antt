@@ -1,12 +1,10 @@
 -- From a plan in the grammar to items that can be read.
-use Rattle.std.proofs.Common.{if◌then◌else◌, ◌≡◌, ◌≢◌, ℕ, zero, suc, ◌+◌, ◌*◌, ◌/◌, ◌<◌, ◌≤◌, List, [], ◌∷◌, ◌++◌, length, get_or, drop, refl, sym, ap, subst, ◌∙◌, arith, Bool, true, false, Some, None, Ok, Err, Result, append-nil, append_assoc, add-one}
-use Rattle.std.specs.Prelude.{slice_get, ◌==◌, is_some}
+use Rattle.std.proofs.Common.{if◌then◌else◌, ◌≡◌, ℕ, zero, suc, ◌+◌, ◌*◌, ◌<◌, List, [], ◌∷◌, ◌++◌, length, get_or, refl, sym, subst, arith, Bool, true, false, Ok, Err, Result}
 use Rattle.std.specs.List.{AllByRecursion}
 use Rattle.sha_tree.specs.Tree.{block_count}
-use Rattle.verity_path.specs.declared.device.Device.{Device}
 use Rattle.text_lines.specs.declared.kinds.PlanKind.{PlanKind}
 use Rattle.text_lines.specs.Fields.{◌>>=◌}
-use Rattle.text_lines.specs.Spelling.{collect, IsText}
+use Rattle.text_lines.specs.Spelling.{collect}
 use Rattle.guest_plan.specs.declared.plan.PlanLine.{PlanLine}
 use Rattle.guest_plan.specs.declared.plan.PlanLine.TheVariants as line
 use Rattle.guest_plan.specs.declared.plan.Item.{Item}
@@ -14,7 +12,7 @@ use Rattle.guest_plan.specs.declared.plan.Item.TheVariants.{Secret, InstanceSalt
 use Rattle.guest_plan.specs.Plans.{Known, nothing, add}
 use Rattle.guest_plan.specs.Spelling.{IsPlan, IsServed, IsItem as IsSaid}
 use Rattle.guest_rules.specs.Machine.{AreItems, IsItem}
-use Rattle.guest_cli.specs.Planned.{device_on, item_with, items_of, is_blob, other_from}
+use Rattle.guest_cli.specs.Planned.{device_on, items_of}
 use Rattle.guest_cli.specs.Booted.{AreServed}
 
 -- ---- items

@@ -1,12 +1,11 @@
 -- A session, piece by piece, and how it ends.
-use Rattle.std.proofs.Common.{◌≡◌, ◌≢◌, ℕ, ◌+◌, ◌-◌, ◌^◌, ◌<◌, ◌≤◌, List, [], ◌∷◌, ◌++◌, length, take, drop, refl, sym, ap, subst, ◌∙◌, append-nil, append_assoc, arith, inl, inr, Option, Some, None, Ok, Err}
-use Rattle.std.specs.Prelude.{◌⊎◌}
-use Rattle.std.specs.Io.KnownBytes.{Consumes, Appends}
-use Rattle.std.proofs.lemmas.List.{length-append, take_at, take_all, take-append-drop, length-take}
+use Rattle.std.proofs.Common.{◌≡◌, ℕ, ◌+◌, ◌<◌, ◌≤◌, List, [], ◌∷◌, ◌++◌, length, take, drop, refl, sym, ap, subst, ◌∙◌, append_assoc, arith, inl, inr, Option, Err}
+use Rattle.std.specs.Io.KnownBytes.{Consumes}
+use Rattle.std.proofs.lemmas.List.{length-append, take_at, take-append-drop}
 use Rattle.std.proofs.lemmas.Grind.{common_steps}
 use Rattle.host_traits.specs.Told.{Told}
 use Rattle.session_frames.specs.Frames.{Held, Framed, Fronts, Splits, IsCutOff, BeginsNone, frame, bytes_of}
-use Rattle.session_frames.specs.Session.{Went, WentOver, Came, SoFar, NoFrameIn}
+use Rattle.session_frames.specs.Session.{WentOver, Came, SoFar}
 use Rattle.session_frames.proofs.Sessions.{consumes_then, so_on}
 use Rattle.session_frames.proofs.Streams.{splits_then, splits_on, length_of_bytes, cut_has_none}
 use Rattle.verity_path.specs.declared.device.Device.{Device}
@@ -15,7 +14,7 @@ use Rattle.guest_rules.specs.Run.{Runs, Ran, frames_of}
 use Rattle.guest_rules.proofs.Runs.{turns_size as turns_length, ran_both, runs_both, written_both, logged_both, frames_both}
 use Rattle.guest_cli.specs.declared.session.Stop.{Stop}
 use Rattle.guest_cli.specs.declared.session.Stop.TheVariants as stop
-use Rattle.guest_cli.specs.Session.{RanCut, AnsweredOver, HeardMuch, IsWhole, IsUnbuilt, IsFront, WhyStopped, HeldOutcome, PieceOutcome, Session, IsMuch, IsPastLimit, IsBad, IsSession, end_of, limit, turns_size}
+use Rattle.guest_cli.specs.Session.{RanCut, AnsweredOver, IsWhole, IsUnbuilt, IsFront, HeldOutcome, PieceOutcome, Session, IsMuch, IsSession, end_of, limit, turns_size}
 use Rattle.guest_cli.proofs.Sessions.{size_is, piece_stopped}
 
 -- the same where the items are equal

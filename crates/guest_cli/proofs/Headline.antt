@@ -1,5 +1,5 @@
 -- A session over a tape is a run in each world.
-use Rattle.std.proofs.Common.{◌≡◌, ◌+◌, ◌-◌, ◌^◌, min, ℕ, List, [], refl, ap, sym, subst, ◌∙◌, Option, Some, None, Result, Ok, Err, inl, inr}
+use Rattle.std.proofs.Common.{◌≡◌, ◌+◌, ◌-◌, ◌^◌, min, ℕ, List, [], refl, ap, sym, subst, ◌∙◌, Option, Some, Result, Ok, Err, inl, inr}
 use Rattle.std.specs.Prelude.{flat_map}
 use Rattle.host_traits.specs.declared.calls.TapeItem.{TapeItem}
 use Rattle.host_traits.specs.Told.{Told, Exchanges}
@@ -10,7 +10,7 @@ use Rattle.guest_rules.specs.Run.{Runs}
 use Rattle.guest_rules.proofs.Standing.{runs_stand}
 use Rattle.guest_cli.specs.declared.session.SessionEnd.{SessionEnd}
 use Rattle.guest_cli.specs.declared.session.SessionEnd.TheVariants.{Read, Write, BadFrame, TooMuch, Unbuilt}
-use Rattle.guest_cli.specs.Session.{Session, RanCut, IsSession}
+use Rattle.guest_cli.specs.Session.{Session, IsSession}
 use Rattle.guest_cli.specs.Replay.{Replayed, start, Sat, Replays, Streams, status_of}
 use Rattle.guest_cli.specs.Loads.{IsReady, PlayOutcome}
 use Rattle.guest_cli.specs.declared.status.Status.{Status}

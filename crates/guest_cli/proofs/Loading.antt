@@ -1,5 +1,5 @@
 -- A file that was loaded.
-use Rattle.std.proofs.Common.{◌≡◌, ℕ, ◌+◌, ◌^◌, ◌<◌, ◌≤◌, List, length, take, refl, sym, ap, ◌∙◌, arith, Option, Some, None, Ok, Err, inl, inr, Vec, Global, length-take}
+use Rattle.std.proofs.Common.{◌≡◌, ℕ, ◌+◌, ◌<◌, ◌≤◌, List, length, sym, ap, ◌∙◌, arith, Option, Some, None, Ok, Err, inl, inr, Vec, Global, length-take}
 use Rattle.std.proofs.lemmas.List.{take_all}
 use Rattle.host_traits.specs.Folders.{Files, Loaded}
 use Rattle.guest_cli.specs.declared.status.Status.{Status}

@@ -1,24 +1,21 @@
 -- A session, frame by frame.
-use Rattle.std.proofs.Common.{◌≡◌, ◌≢◌, ℕ, ◌+◌, ◌-◌, ◌^◌, ◌<◌, ◌≤◌, min, List, [], ◌∷◌, ◌++◌, length, refl, sym, ap, subst, ◌∙◌, append-nil, append_assoc, arith, inl, inr, Option, Some, None, Err}
-use Rattle.std.specs.Prelude.{◌⊎◌, flat_map}
+use Rattle.std.proofs.Common.{◌≡◌, ℕ, ◌+◌, ◌-◌, ◌^◌, ◌<◌, ◌≤◌, min, List, [], ◌∷◌, ◌++◌, length, refl, sym, ap, subst, ◌∙◌, append_assoc, arith, Option, Some, Err}
+use Rattle.std.specs.Prelude.{◌⊎◌}
 use Rattle.std.specs.Io.KnownBytes.{Appends}
 use Rattle.std.proofs.lemmas.List.{length-append}
-use Rattle.host_traits.specs.Told.{Told, Exchanges, IsHeardSize, heard_size, heard_more}
+use Rattle.host_traits.specs.Told.{Told, Exchanges, IsHeardSize, heard_size}
 use Rattle.host_traits.specs.Streams.{SomePrefix}
 use Rattle.session_frames.specs.Frames.{Held, Framed, Fronts, frame, bytes_of}
-use Rattle.session_frames.specs.Session.{Went, WentOver}
-use Rattle.session_frames.specs.Replies.{Sent, reply_frame}
+use Rattle.session_frames.specs.Replies.{reply_frame}
 use Rattle.session_frames.proofs.Heads.{held_at}
 use Rattle.session_frames.proofs.Sessions.{went_not, went_on, over_not, over_on}
 use Rattle.session_frames.proofs.Streams.{length_of_bytes}
-use Rattle.verity_path.specs.declared.device.Cause.{Cause}
 use Rattle.verity_path.specs.declared.device.Device.{Device}
-use Rattle.guest_rules.specs.Machine.{State, Turn, moment, nowhere}
-use Rattle.guest_rules.specs.Step.{Stepped}
-use Rattle.guest_rules.specs.Run.{Runs, Ran, frames_of, out_bytes, log_bytes, log_line, frame_size}
+use Rattle.guest_rules.specs.Machine.{State, Turn}
+use Rattle.guest_rules.specs.Run.{Runs, Ran, frames_of, log_line, frame_size}
 use Rattle.guest_rules.proofs.Runs.{turns_size, turn_of, ran_none, ran_one, ran_both, frames_both, runs_both, runs_one, written_both, logged_both}
 use Rattle.guest_cli.specs.Turns.{Taken, read_frame}
-use Rattle.guest_cli.specs.Session.{Answered, AnsweredOver, RanCut, HeardMuch, limit, HeldOutcome, PieceOutcome}
+use Rattle.guest_cli.specs.Session.{Answered, AnsweredOver, RanCut, HeardMuch, HeldOutcome, PieceOutcome}
 use Rattle.guest_cli.specs.declared.session.Stop.{Stop}
 use Rattle.guest_cli.specs.declared.session.Stop.TheVariants as stop
 

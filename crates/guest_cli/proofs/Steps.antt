@@ -1,9 +1,8 @@
 -- The rows of a read, from the work that was done for it.
-use Rattle.std.proofs.Common.{◌≡◌, ℕ, ◌<◌, ◌≤◌, List, [], length, refl, ap, sym, Ok, Err, Some, None, Option, Result, arith}
-use Rattle.std.specs.Prelude.{true, slice_get}
-use Rattle.host_traits.specs.declared.calls.Call.{Call}
-use Rattle.host_traits.specs.Told.{Told, Exchanges}
-use Rattle.host_traits.specs.Did.{Trace, trace_of, trace_after, Did}
+use Rattle.std.proofs.Common.{◌≡◌, ℕ, ◌<◌, ◌≤◌, List, [], length, refl, ap, Ok, Err, Some, None, Result, arith}
+use Rattle.std.specs.Prelude.{slice_get}
+use Rattle.host_traits.specs.Told.{Told}
+use Rattle.host_traits.specs.Did.{Did}
 use Rattle.host_traits.proofs.Doing.{did_none}
 use Rattle.session_frames.specs.Frames.{Framed}
 use Rattle.session_frames.specs.Replies.{sent_of, sent_code}
@@ -11,10 +10,10 @@ use Rattle.verity_path.specs.declared.device.Cause.TheVariants as cause
 use Rattle.verity_path.specs.declared.device.Device.{Device}
 use Rattle.verity_path.specs.declared.walk.WalkFault.{WalkFault}
 use Rattle.verity_path.specs.declared.walk.WalkFault.TheVariants as fault
-use Rattle.verity_path.specs.Range.{most_answers, IsForRead, RangeOutcome}
+use Rattle.verity_path.specs.Range.{most_answers, RangeOutcome}
 use Rattle.verity_path.proofs.Blaming.{blame_wider}
 use Rattle.verity_path.proofs.Ranges.{cut_wider}
-use Rattle.guest_rules.specs.Machine.{State, ItemRead, item_read, size_of, read_of, request_of}
+use Rattle.guest_rules.specs.Machine.{State, item_read, size_of, request_of}
 use Rattle.guest_rules.specs.ItemRow.{IsForItem, no_item, too_large, served, blamed, no_memory}
 use Rattle.guest_rules.specs.Step.{Stepped, answers_of, most_for}
 use Rattle.guest_rules.proofs.Runs.{stepped}

@@ -1,6 +1,4 @@
 -- What a command that was read says.
-use Rattle.std.specs.Option.{option_map}
-use Rattle.std.specs.Prelude.{Option}
 use Rattle.guest_cli.specs.declared.words.Command.{Command}
 use Rattle.guest_cli.specs.declared.words.Command.TheVariants.{Replay, Unbuilt}
 use Rattle.guest_cli.specs.Words.{Command as Asked, replay_of, serve_or_soak}

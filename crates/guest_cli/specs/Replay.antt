@@ -1,12 +1,12 @@
 -- A replay of a tape: what its turns are, and what each status says.
-use Rattle.std.specs.Prelude.{false, ◌≡◌, ◌≤◌, ◌<◌, ◌+◌, ◌-◌, ◌^◌, min, length, ℕ, List, [], flat_map, Option, Some, None, Result, Ok, Err, ◌⊎◌, string_bytes}
+use Rattle.std.specs.Prelude.{false, ◌≡◌, ◌<◌, ◌+◌, ◌-◌, ◌^◌, min, length, ℕ, List, [], flat_map, Option, Some, None, Result, Ok, Err, ◌⊎◌, string_bytes}
 use Rattle.std.specs.Io.KnownBytes.{Appends}
 use Rattle.host_traits.specs.declared.calls.Call.{Call}
 use Rattle.host_traits.specs.declared.calls.TapeItem.{TapeItem}
 use Rattle.host_traits.specs.Streams.{SomePrefix}
 use Rattle.host_traits.specs.Told.{Rose}
 use Rattle.host_traits.specs.Folders.{Files, Errand, load_of}
-use Rattle.host_tape.specs.Played.{Played, recited, failures, tape_told, unplayed}
+use Rattle.host_tape.specs.Played.{Played, recited, failures, tape_told}
 use Rattle.host_tape.specs.Tape.{IsTape, Breaks}
 use Rattle.text_lines.specs.declared.kinds.PlanKind.{PlanKind}
 use Rattle.verity_path.specs.declared.device.Device.{Device}

@@ -1,9 +1,9 @@
 -- How a session ends, and what it has done.
-use Rattle.std.specs.Prelude.{◌≡◌, ◌≢◌, ℕ, ◌^◌, ◌+◌, ◌<◌, ◌≤◌, List, [], ◌∷◌, ◌++◌, length, take, flat_map, Option, Some, None, Result, Ok, Err, ◌⊎◌}
+use Rattle.std.specs.Prelude.{◌≡◌, ◌≢◌, ℕ, ◌^◌, ◌+◌, ◌<◌, ◌≤◌, List, [], ◌∷◌, ◌++◌, length, take, Option, Some, Result, Ok, Err, ◌⊎◌}
 use Rattle.std.specs.Io.KnownBytes.{Appends, IsAtEnd}
 use Rattle.host_traits.specs.Streams.{SomePrefix}
 use Rattle.host_traits.specs.Told.{Told, Exchanges, heard_size}
-use Rattle.session_frames.specs.Frames.{Held, Framed, Fronts, Splits, IsCutOff, BeginsNone, frame, bytes_of}
+use Rattle.session_frames.specs.Frames.{Held, Fronts, Splits, IsCutOff, BeginsNone, bytes_of}
 use Rattle.session_frames.specs.Session.{Went, WentOver, Came, NoFrameIn}
 use Rattle.session_frames.specs.Replies.{reply_frame}
 use Rattle.verity_path.specs.declared.device.Device.{Device}

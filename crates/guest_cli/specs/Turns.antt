@@ -1,5 +1,5 @@
 -- What came of one frame of channel 1.
-use Rattle.std.specs.Prelude.{◌≡◌, ℕ, List, Option, Some, Result, Ok, Err, ◌⊎◌}
+use Rattle.std.specs.Prelude.{◌≡◌, ℕ, List, Option, Result, Ok, Err, ◌⊎◌}
 use Rattle.std.specs.Io.KnownBytes.{Appends}
 use Rattle.host_traits.specs.Streams.{SomePrefix}
 use Rattle.host_traits.specs.Told.{Told}

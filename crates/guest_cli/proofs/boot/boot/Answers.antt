@@ -1,4 +1,4 @@
-use Rattle.std.proofs.Common.{◌≡◌, subst, sym, ◌∙◌, ap}
+use Rattle.std.proofs.Common.{subst, sym, ◌∙◌, ap}
 use Rattle.guest_rules.specs.Machine.{AreItems}
 use Rattle.guest_cli.specs.Booted.{AreServed}
 use Rattle.guest_cli.specs.Planned.{items_of}

@@ -1,7 +1,6 @@
-use Rattle.std.proofs.Common.{◌≡◌, ◌∙◌, ◌<◌, ◌≤◌, ◌*◌, Some, ap, sym, length, arith, Fits, w64}
+use Rattle.std.proofs.Common.{◌≡◌, ◌∙◌, ◌<◌, Some, ap, sym, length, arith}
 use Rattle.std.specs.Prelude.{slice_get}
 use Rattle.std.proofs.lemmas.Option.{slice_get-get_or}
-use Rattle.guest_rules.specs.Machine.{IsItem, item_read}
 use Rattle.guest_cli.proofs.Steps.{absent_step, large_step, read_step}
 use Rattle.guest_cli.proofs.engine.answer_frame.Goals as goal
 

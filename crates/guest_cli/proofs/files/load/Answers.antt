@@ -1,4 +1,4 @@
-use Rattle.std.proofs.Common.{◌≡◌, ◌≤◌, ◌<◌, ◌+◌, ◌-◌, length, arith, inl, inr}
+use Rattle.std.proofs.Common.{arith, inl, inr}
 use Rattle.guest_cli.proofs.Loading.{long_file, past_file, loaded_file}
 use Rattle.guest_cli.proofs.files.load.Goals as goal
 use Rattle.guest_cli.proofs.files.load.Goals.{then-len-gt-FILE_LIMIT-via-then-len-gt-FILE_LIMIT, then-len-gt-FILE_LIMIT-via-else-len-gt-FILE_LIMIT+then-len-loaded}

@@ -1,8 +1,7 @@
-use Rattle.std.proofs.Common.{[], ◌≡◌, ◌∙◌, ◌≤◌, ◌<◌, ◌+◌, refl, sym, ap, subst, arith, length}
+use Rattle.std.proofs.Common.{[], ◌∙◌, refl, ap, arith, length}
 use Rattle.session_frames.specs.Frames.{Fronts, Held}
-use Rattle.session_frames.proofs.Sessions.{went_bound}
 use Rattle.session_frames.proofs.Heads.{length_of_held}
-use Rattle.guest_cli.proofs.Sessions.{few_heard, much_heard, held_start, held_on, held_cut}
+use Rattle.guest_cli.proofs.Sessions.{few_heard, held_start, held_on, held_cut}
 use Rattle.guest_cli.proofs.session.answer_held.Goals as goal
 
 pub loop-channel-init : goal.loop-channel-init

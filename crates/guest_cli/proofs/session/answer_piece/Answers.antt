@@ -1,4 +1,4 @@
-use Rattle.std.proofs.Common.{◌≡◌, ◌+◌, ◌-◌, ◌≤◌, ◌<◌, ◌++◌, ◌∙◌, sym, ap, subst, refl, ℕ, List, [], length, take, drop, arith}
+use Rattle.std.proofs.Common.{◌≡◌, ◌-◌, ◌++◌, ◌∙◌, sym, ap, refl, ℕ, List, [], length, take, drop, arith}
 use Rattle.std.proofs.lemmas.List.{take_all, take-append-drop, length-append, length-drop, length-take, append_assoc}
 use Rattle.session_frames.proofs.Streams.{cut_fits}
 use Rattle.session_frames.proofs.Sessions.{over_bound}

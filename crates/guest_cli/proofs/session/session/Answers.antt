@@ -1,5 +1,5 @@
-use Rattle.std.proofs.Common.{◌≡◌, ◌+◌, ◌-◌, ◌≤◌, ◌<◌, ◌++◌, ◌∙◌, sym, ap, subst, refl, ℕ, List, [], length, take, drop, arith, rules}
-use Rattle.std.proofs.lemmas.List.{length-append, length-drop, length-take}
+use Rattle.std.proofs.Common.{◌≡◌, ◌-◌, ◌≤◌, ◌∙◌, refl, [], length, take, drop, arith, rules}
+use Rattle.std.proofs.lemmas.List.{length-drop, length-take}
 use Rattle.std.specs.Io.KnownBytes.{Consumes}
 use Rattle.session_frames.proofs.Sessions.{so_far_not}
 use Rattle.session_frames.proofs.Streams.{nothing_is_cut}

@@ -1,6 +1,5 @@
-use Rattle.std.proofs.Common.{◌≡◌, ℕ, ◌+◌, ◌≤◌, length, arith, subst, sym, ap}
+use Rattle.std.proofs.Common.{arith}
 use Rattle.guest_plan.specs.Plans.{known}
-use Rattle.guest_cli.specs.Replay.{IsThere, PlanRead}
 use Rattle.guest_cli.proofs.Loading.{taped_fails, tape_fails, entropy_fails}
 use Rattle.guest_cli.proofs.top.load_inputs.Goals as goal
 

@@ -1,4 +1,4 @@
-use Rattle.std.proofs.Common.{◌≡◌, inr, ap, sym, ◌∙◌}
+use Rattle.std.proofs.Common.{inr}
 use Rattle.guest_cli.proofs.Headline.{tape_session_by}
 use Rattle.guest_cli.proofs.top.play.Goals as goal
 
