@@ -99,17 +99,20 @@ const CASES: &[Case] = &[
 
 fn tape_of(alloc: Global, records: &[Record]) -> Result<Vec<u8>, Fail> {
     let blob = content(alloc, 8192)?;
-    let mut flipped = Vec::from_slice(alloc, &blob[4096..])?;
-    flipped[0] ^= 1;
+    let first = blob.get(..4096).ok_or("range")?;
+    let second = blob.get(4096..).ok_or("range")?;
+    let mut flipped = Vec::from_slice(alloc, second)?;
+    *flipped.first_mut().ok_or("empty")? ^= 1;
+    let short = flipped.get(..3).ok_or("range")?;
     let top = page(alloc, &[FIRST, SECOND])?;
     let mut tape = Vec::from_slice(alloc, b"guest-tape 1\n")?;
     for item in records {
         match item {
             Page => record(&mut tape, &top)?,
-            First => record(&mut tape, &blob[..4096])?,
-            Second => record(&mut tape, &blob[4096..])?,
+            First => record(&mut tape, first)?,
+            Second => record(&mut tape, second)?,
             Flipped => record(&mut tape, &flipped)?,
-            Short => record(&mut tape, &flipped[..3])?,
+            Short => record(&mut tape, short)?,
             Done => tape.push(1)?,
         }
     }
