@@ -10,3 +10,6 @@ mod mem_file;
 mod names;
 
 pub use crate::host::MemHost;
+
+#[cfg(test)]
+mod tests;
