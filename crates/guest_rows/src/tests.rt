@@ -211,12 +211,14 @@ fn climbs_a_tree_of_three_levels(rt: HostRuntime) -> Result<(), Fail> {
     let zeros = [0; 4096];
     let top = page(alloc, &[FULL[2], UNFULL[2]])?;
     let mut tape = Vec::from_slice(alloc, b"guest-tape 1\n")?;
-    record(&mut tape, &top)?;
-    for digest in [FULL[1], FULL[0]] {
-        let low = page(alloc, &[digest; 128])?;
-        record(&mut tape, &low)?;
+    for _ in 0..3 {
+        record(&mut tape, &top)?;
+        for digest in [FULL[1], FULL[0]] {
+            let low = page(alloc, &[digest; 128])?;
+            record(&mut tape, &low)?;
+        }
+        record(&mut tape, &zeros)?;
     }
-    record(&mut tape, &zeros)?;
     record(&mut tape, &top)?;
     for digest in [UNFULL[1], UNFULL[0]] {
         let low = page(alloc, &[digest])?;
@@ -224,11 +226,12 @@ fn climbs_a_tree_of_three_levels(rt: HostRuntime) -> Result<(), Fail> {
     }
     record(&mut tape, &zeros)?;
     let mut stream = Vec::new(alloc);
-    read(&mut stream, 0, 0, 4)?;
-    read(&mut stream, 0, 67_112_956, 100)?;
     let mut replies = Vec::new(alloc);
-    reply(&mut replies, 0, &[0; 4])?;
-    reply(&mut replies, 0, &[0; 4])?;
+    // The first bytes, two on each side of a page's border, and the last ones.
+    for (offset, size) in [(0, 4), (524_286, 4), (67_112_956, 100)] {
+        read(&mut stream, 0, offset, size)?;
+        reply(&mut replies, 0, &[0; 4])?;
+    }
     let outcome = run(alloc, &replay(WIDE_PLAN.as_bytes(), &tape, &stream))?;
     assert_eq!(rt; outcome.log.bytes(), b"".as_slice());
     assert_eq!(rt; outcome.replies.bytes(), replies.as_slice());

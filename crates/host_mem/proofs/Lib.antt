@@ -1,0 +1,5 @@
+pub mod Serving
+pub mod Changes
+pub mod Finds
+pub mod Keys
+pub mod Puts

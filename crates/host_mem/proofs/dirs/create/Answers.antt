@@ -1,0 +1,20 @@
+use Rattle.std.proofs.Common.{cond, ◌≡◌, ℕ, ◌+◌, ◌-◌, ◌*◌, ◌/◌, ◌<◌, ◌≤◌, List, [], ◌∷◌, length, take, drop, arith, refl, ap, sym, ◌∙◌, rules, Some, None, true, false, Option}
+use Rattle.std.specs.Prelude.{nat_eq, nat_le, IsSome}
+use Rattle.std.specs.Ordering.{nat_cmp}
+use Rattle.std.specs.BTreeMap.{is_at}
+use Rattle.std.proofs.lemmas.Map.Steps.{set_value_same}
+use Rattle.std.proofs.lemmas.Grind.{common_steps}
+use Rattle.host_traits.specs.Held.{over, resized, tree_with}
+use Rattle.host_mem.specs.Mem.{at, covers, held_of, file_of, has_name, names_have, find_in, is_place, or_zeros}
+use Rattle.host_mem.proofs.Changes.{not_free, creates}
+use Rattle.host_mem.proofs.dirs.create.Goals as goal
+
+pub returns-then-not-may_make : goal.returns-then-not-may_make
+returns-then-not-may_make c = λ disks.
+    let may = sym c.may_make.ensures ∙ c.if-not-may_make.true in
+    ((not_free disks c.args.files.now.entries c.args.dirs.now.entries c.args.dir c.args.name.now c.args.file may).0, refl)
+
+pub returns-in-Ok-add_name : goal.returns-in-Ok-add_name
+returns-in-Ok-add_name c = λ disks.
+    let may = sym c.may_make.ensures ∙ c.if-not-may_make.false in
+    creates disks c.args.files.now.entries c.insert.new.self.entries c.args.dirs.now.entries c.add_name.new.dirs.entries c.args.dir c.args.file c.args.name.now c.in-Ok-add_name.ensures.ok may (rw c.new.ensures at c.in-Ok.ensures.updates.0)

@@ -1,0 +1,23 @@
+use Rattle.std.proofs.Common.{length-take, cond, ◌≡◌, ℕ, ◌+◌, ◌-◌, ◌*◌, ◌/◌, ◌<◌, ◌≤◌, List, [], ◌∷◌, length, take, drop, arith, refl, ap, sym, ◌∙◌, rules, Some, None, true, false, Option}
+use Rattle.std.specs.Prelude.{nat_eq, nat_le, IsSome}
+use Rattle.std.specs.Ordering.{nat_cmp}
+use Rattle.std.specs.BTreeMap.{is_at}
+use Rattle.std.proofs.lemmas.Map.Steps.{set_value_same}
+use Rattle.std.proofs.lemmas.Grind.{common_steps}
+use Rattle.host_traits.specs.Held.{over, resized, tree_with}
+use Rattle.host_mem.specs.Mem.{at, covers, held_of, file_of, has_name, names_have, find_in, is_place, or_zeros}
+use Rattle.host_mem.proofs.Changes.{no_file, reads_descriptor}
+use Rattle.host_mem.proofs.files.read_descriptor.Goals as goal
+
+pub returns-in-Some-clause-does : goal.returns-in-Some-clause-does
+returns-in-Some-clause-does c = λ disks dirs.
+    let there : at c.args.files.now.entries c.args.file ≡ Some c.in-Some.held.now = sym c.in-Some.ensures.value in
+    rw c.read_descriptor.ensures (reads_descriptor disks c.args.files.now.entries dirs c.args.file c.in-Some.held.now there)
+
+pub returns-in-None-clause-does : goal.returns-in-None-clause-does
+returns-in-None-clause-does c = λ disks dirs.
+    let none : at c.args.files.now.entries c.args.file ≡ None = sym c.in-None.ensures.value in
+    ((no_file disks c.args.files.now.entries dirs c.args.file 0 0 [] none).2, refl)
+
+pub returns-in-Some-clause-fills : goal.returns-in-Some-clause-fills
+returns-in-Some-clause-fills c = rw c.read_descriptor.ensures (simp length-take (omega arith))

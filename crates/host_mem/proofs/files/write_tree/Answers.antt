@@ -1,0 +1,25 @@
+use Rattle.std.proofs.Common.{cond, ◌≡◌, ℕ, ◌+◌, ◌-◌, ◌*◌, ◌/◌, ◌<◌, ◌≤◌, List, [], ◌∷◌, length, take, drop, arith, refl, ap, sym, ◌∙◌, rules, Some, None, true, false, Option}
+use Rattle.std.specs.Prelude.{nat_eq, nat_le, IsSome}
+use Rattle.std.specs.Ordering.{nat_cmp}
+use Rattle.std.specs.BTreeMap.{is_at}
+use Rattle.std.proofs.lemmas.Map.Steps.{set_value_same}
+use Rattle.std.proofs.lemmas.Grind.{common_steps}
+use Rattle.host_traits.specs.Held.{over, resized, tree_with}
+use Rattle.host_mem.specs.Mem.{at, covers, held_of, file_of, has_name, names_have, find_in, is_place, or_zeros}
+use Rattle.host_mem.specs.Mem.{Puts}
+use Rattle.host_mem.proofs.Changes.{no_file, writes_tree}
+use Rattle.host_mem.proofs.files.write_tree.Goals as goal
+
+pub returns-in-Ok : goal.returns-in-Ok
+returns-in-Ok c = λ disks dirs.
+    let there : at c.args.files.now.entries c.args.file ≡ Some c.in-Some.held.now = sym c.in-Some.ensures.value in
+    let w = c.get_mut.follows.holds c.write_tree.new.self in
+    let here : IsSome (at c.args.files.now.entries c.args.file) = rw there refl in
+    let files = (c.get_mut.follows.lender c.write_tree.new.self).entries in
+    writes_tree disks c.args.files.now.entries files dirs c.args.file c.args.level c.args.index c.args.bytes.now c.in-Some.held.now c.write_tree.new.self there c.write_tree.ensures.bytes c.write_tree.ensures.descriptor c.in-Ok.ensures.tree (w.3 here).0
+
+pub returns-in-None : goal.returns-in-None
+returns-in-None c = λ disks dirs.
+    let same : c.get_mut.follows.lender-at-none.entries ≡ c.args.files.now.entries = ap (λ f. f.entries) c.get_mut.follows.holds-at-none in
+    let none : at c.args.files.now.entries c.args.file ≡ None = sym c.in-None.ensures.value in
+    ((no_file disks c.args.files.now.entries dirs c.args.file c.args.level c.args.index c.args.bytes.now none).4, ap (λ z. held_of disks z dirs) same)

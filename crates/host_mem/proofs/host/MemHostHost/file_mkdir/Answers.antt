@@ -1,0 +1,15 @@
+use Rattle.std.proofs.Common.{◌≡◌, sym}
+use Rattle.host_mem.proofs.Serving.{listed, done, fails_done}
+use Rattle.host_mem.proofs.host.MemHostHost.file_mkdir.Goals as goal
+
+pub returns-then-begin-clause-asked : goal.returns-then-begin-clause-asked
+returns-then-begin-clause-asked c =
+    rw (← c.self.view_is) (listed _ _ _ _ _ (rw c.if-begin.true at c.begin.ensures))
+
+pub returns-clause-asked : goal.returns-clause-asked
+returns-clause-asked c =
+    rw (← c.self.view_is) (done _ _ _ _ _ _ _ _ _ (rw c.if-begin.false at c.begin.ensures) (c.mkdir-answer.ensures c.self.inside.disks.entries) c.end.ensures)
+
+pub returns-clause-fails : goal.returns-clause-fails
+returns-clause-fails c =
+    rw (← c.self.view_is) (fails_done _ _ _ _ _ _ _ (rw c.if-begin.false at c.begin.ensures) (c.mkdir-answer.ensures c.self.inside.disks.entries))
