@@ -4,7 +4,6 @@ ghost use Rattle.std.specs.Option.{option_map};
 ghost use Rattle.host_traits.specs.Folders.{errand_of};
 
 use host_traits::{Folder, FolderCall, FolderError};
-use mg_base::Memory;
 use std::alloc::Global;
 use std::fs;
 use std::io::{self, ErrorKind, Read};
