@@ -8,26 +8,9 @@ use Rattle.std.proofs.lemmas.List.{length-map}
 use Rattle.composite_spec.specs.declared.kinds.SpecFault.{SpecFault}
 use Rattle.composite_spec.specs.declared.kinds.SpecFault.TheVariants as faults
 use Rattle.composite_spec.specs.Wire.{◌>>=◌, check}
-use Rattle.composite_spec.specs.Said.{Placed, Composite, IsPath, Follows, Rise, IsLength, IsComposite, offset_of}
-use Rattle.composite_spec.specs.Reading.{Part, Disk, Gives, stated, stated_offset, is_path, follows, placed_of, all_placed, is_length, judged, decoded, disk_of, magic}
-
-abbrev done : {K : Type 0} → K → Result K SpecFault
-done x = Ok x
-
-done_is : {K : Type 0} (x y : K) → done x ≡ done y → x ≡ y
-done_is x y e = cc
-
-pub bind_ok : {A B : Type 0} (r : Result A SpecFault) (f : A → Result B SpecFault) (y : B) → (r >>= f) ≡ Ok y → (x : A) × (r ≡ Ok x) × (f x ≡ Ok y)
-bind_ok (Ok x) f y e = (x, refl, e)
-bind_ok (Err k) f y e = absurd cc
-
-pub check_ok : {A : Type 0} (b : Bool) (fault : SpecFault) (x y : A) → check b fault x ≡ Ok y → (b ≡ true) × (x ≡ y)
-check_ok true fault x y e = (refl, cc)
-check_ok false fault x y e = absurd cc
-
-pub both : (a b : Bool) → (a && b) ≡ true → (a ≡ true) × (b ≡ true)
-both true b e = (refl, e)
-both false b e = absurd cc
+use Rattle.composite_spec.specs.Said.{magic, Placed, Composite, IsPath, Follows, Rise, IsLength, IsComposite, offset_of}
+use Rattle.composite_spec.proofs.Steps.{bind_ok, check_ok, both, done_is}
+use Rattle.composite_spec.specs.Reading.{Part, Disk, Gives, stated, stated_offset, is_path, follows, placed_of, all_placed, is_length, judged, decoded, disk_of}
 
 path_takes : (path : List ℕ) → is_path path ≡ true → IsPath path
 unfolding is_path
@@ -112,7 +95,7 @@ length_takes n offsets e =
     let d = both _ _ b.0 in
     record { some = ltb-true _ _ d.0; beyond = ltb-true _ _ d.1; sectors = eqb-true _ _ b.1; bound = not_less n a.1 }
 
-offsets_same : (cs : List Placed) → map stated_offset (map stated cs) ≡ map offset_of cs
+pub offsets_same : (cs : List Placed) → map stated_offset (map stated cs) ≡ map offset_of cs
 offsets_same [] = refl
 offsets_same (c ∷ cs) = ap (λ (x : List ℕ). c.offset ∷ x) (offsets_same cs)
 

@@ -1,3 +1,10 @@
+pub mod Steps
+pub mod Varints
+pub mod Fields
+pub mod Messages
+pub mod Judged
+pub mod Files
+pub mod Written
+pub mod Kept
 pub mod Walks
 pub mod Rules
-pub mod Judged

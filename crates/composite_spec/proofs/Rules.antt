@@ -5,8 +5,8 @@ use Rattle.composite_spec.specs.declared.kinds.SpecFault.TheVariants as faults
 use Rattle.std.specs.Str.{bytes_eq}
 use Rattle.std.proofs.lemmas.Bool.{le-ltb}
 use Rattle.composite_spec.specs.Wire.{◌>>=◌}
-use Rattle.composite_spec.specs.Said.{Placed, Composite}
-use Rattle.composite_spec.specs.Reading.{Part, Disk, part_by, stated_offset, is_length, judged, disk_of, decoded, magic, placed_of, all_placed, Fails}
+use Rattle.composite_spec.specs.Said.{magic, Placed, Composite}
+use Rattle.composite_spec.specs.Reading.{Part, Disk, part_by, stated_offset, is_length, judged, disk_of, decoded, placed_of, all_placed, Fails}
 use Rattle.composite_spec.specs.declared.stated.Stated.{Stated}
 use Rattle.composite_spec.proofs.Walks.{fails_along, fails_bind}
 

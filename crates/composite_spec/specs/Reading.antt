@@ -1,13 +1,14 @@
 -- What the bytes of a composite file say, or the first rule that they break.
-use Rattle.std.specs.Prelude.{◌≡◌, ℕ, zero, suc, ◌+◌, ◌-◌, ◌%◌, ◌^◌, Bool, not, ◌&&◌, List, [], ◌∷◌, ◌++◌, length, map, take, drop, slice_index, Option, Some, None, Result, Ok, Err, ◌==◌, nat_lt, if◌then◌else◌, codes}
+use Rattle.std.specs.Prelude.{◌≡◌, ℕ, zero, suc, ◌+◌, ◌-◌, ◌%◌, ◌^◌, Bool, not, ◌&&◌, List, [], ◌∷◌, ◌++◌, length, map, take, drop, slice_index, Option, Some, None, Result, Ok, Err, ◌==◌, nat_lt, if◌then◌else◌}
 use Rattle.std.specs.Str.{is_utf8, bytes_eq}
+use Rattle.composite_spec.specs.declared.kinds.Spec.{Spec}
 use Rattle.composite_spec.specs.declared.kinds.SpecFault.{SpecFault}
 use Rattle.composite_spec.specs.declared.kinds.SpecFault.TheVariants as faults
 use Rattle.composite_spec.specs.declared.wire.Message.TheVariants as messages
 use Rattle.composite_spec.specs.declared.stated.Stated.{Stated}
 use Rattle.composite_spec.specs.declared.stated.StatedDisk.{StatedDisk}
 use Rattle.composite_spec.specs.Wire.{◌>>=◌, check, Content, counted, bytes_of, skipped, field}
-use Rattle.composite_spec.specs.Said.{Placed, Composite}
+use Rattle.composite_spec.specs.Said.{Placed, Composite, composite, magic, capability_of}
 
 -- what the fields of a component, and of a disk, state, before any rule on it
 pub record Part : Type 0 where
@@ -28,7 +29,7 @@ disk_by d = record { version = d.version; parts = map part_by d.components.items
 
 -- what a component states: its path, its offset, and whether it may be written
 abbrev pub stated : Placed → Part
-stated c = record { path = c.path; offset = c.offset; capability = if c.write then 1 else 0 }
+stated c = record { path = c.path; offset = c.offset; capability = capability_of c }
 
 -- what no field states is 0 or empty
 abbrev pub no_part : Part
@@ -122,9 +123,6 @@ judged d = do
 
 -- ---- the file
 
-abbrev pub magic : List ℕ
-magic = codes "composite_disk" ++ 29 ∷ []
-
 unfoldable pub decoded : List ℕ → Result Composite SpecFault
 decoded bytes = do
   begins ← check (bytes_eq (take 15 bytes) magic) faults.Magic bytes
@@ -140,3 +138,9 @@ Fails fault read = read ≡ Err fault
 abbrev pub Gives : {X Y : Type 0} → (X → Y) → Result X SpecFault → Result Y SpecFault → Type 0
 Gives view (Ok x) read = read ≡ Ok (view x)
 Gives view (Err fault) read = Fails fault read
+
+-- the answer is this description, unless memory ran out
+abbrev pub IsRead : Composite → Result Spec SpecFault → Type 0
+IsRead c (Ok s) = composite s ≡ c
+IsRead c (Err faults.Memory) = Unit {0}
+IsRead c (Err fault) = ⊥

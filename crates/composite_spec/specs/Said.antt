@@ -1,5 +1,5 @@
 -- What a composite file says, with lists in place of what the program holds.
-use Rattle.std.specs.Prelude.{◌≡◌, ℕ, ◌<◌, ◌≤◌, ◌%◌, ◌-◌, ◌^◌, Bool, List, [], ◌∷◌, length, map, slice_index, Option, Some, None, string_bytes, true}
+use Rattle.std.specs.Prelude.{◌≡◌, ℕ, ◌<◌, ◌≤◌, ◌%◌, ◌-◌, ◌^◌, Bool, List, [], ◌∷◌, ◌++◌, length, map, slice_index, Option, Some, None, string_bytes, codes, true, if◌then◌else◌}
 use Rattle.std.specs.List.{AllByRecursion}
 use Rattle.std.specs.Str.{is_utf8}
 use Rattle.composite_spec.specs.declared.kinds.Component.{Component}
@@ -24,6 +24,14 @@ composite s = record { components = map placed s.components.items; length = s.le
 
 abbrev pub offset_of : Placed → ℕ
 offset_of c = c.offset
+
+-- the number that says whether it may be written
+abbrev pub capability_of : Placed → ℕ
+capability_of c = if c.write then 1 else 0
+
+-- what a composite file begins with
+abbrev pub magic : List ℕ
+magic = codes "composite_disk" ++ 29 ∷ []
 
 -- a path: 1 to 255 bytes of UTF-8
 pub record IsPath (path : List ℕ) : Type 0 where

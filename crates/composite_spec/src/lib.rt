@@ -7,6 +7,8 @@ mod stated;
 #[cfg(test)]
 mod tests;
 mod wire;
+mod writing;
 
 pub use crate::kinds::{Component, Spec, SpecFault};
 pub use crate::reading::read_spec;
+pub use crate::writing::write_spec;

@@ -2,7 +2,8 @@
 ghost use Rattle.std.specs.Prelude.{◌≡◌, ℕ, ◌<◌, ◌≤◌, ◌^◌, IfOk, MatchOption, MatchResult, Ok, true, false, length, map};
 ghost use Rattle.composite_spec.specs.Wire.{Tells};
 ghost use Rattle.composite_spec.specs.Said.{Composite, IsComposite, composite, placed};
-ghost use Rattle.composite_spec.specs.Reading.{Gives, Fails, part_by, disk_by, is_path, follows, placed_of, all_placed, is_length, stated_offset, judged, decoded};
+ghost use Rattle.composite_spec.specs.Reading.{Gives, Fails, part_by, disk_by, is_path, follows, placed_of, all_placed, is_length, stated_offset, judged, decoded, IsRead};
+ghost use Rattle.composite_spec.specs.Spelling.{IsFile};
 
 use crate::kinds::{Component, Spec, SpecFault};
 use crate::stated::{Stated, StatedDisk, disk_of};
@@ -138,6 +139,10 @@ fn decoded(alloc: Global, bytes: &[u8]) -> Result<Spec, SpecFault>
 pub fn read_spec(alloc: Global, bytes: &[u8]) -> Result<Spec, SpecFault>
     // The description, or the first rule that the bytes break, unless memory runs out.
     ensures value { Gives composite result (decoded bytes.now) }
+    // What is read is spelled so.
+    ensures found { IfOk result (λ s. IsFile bytes.now (composite s)) }
+    // What is spelled so is read, unless memory runs out.
+    ensures only { (c : Composite) → IsFile bytes.now c → IsRead c result }
     // What is read is a description that a map can be made of.
     ensures describes { IfOk result (λ s. IsComposite (composite s)) }
 {

@@ -1,5 +1,6 @@
 // The worked rows, and edges that no clause names.
-use crate::{SpecFault, read_spec};
+use crate::{SpecFault, read_spec, write_spec};
+use std::alloc::Global;
 use std::test::Fail;
 
 const MAGIC: &[u8; 15] = b"composite_disk\x1d";
@@ -125,6 +126,33 @@ fn bounds_components(rt: HostRuntime) -> Result<(), Fail> {
             Err(fault) => Err(fault),
         };
         assert_eq!(rt; found, want, "{count}");
+    }
+    Ok(())
+}
+
+/// What is written for what the message behind the magic says.
+fn written_again(alloc: Global, message: &[u8]) -> Result<Vec<u8>, Fail> {
+    let mut bytes = MAGIC.to_vec(alloc)?;
+    bytes.extend_from_slice(message)?;
+    let spec = read_spec(alloc, bytes.as_slice())?;
+    let mut out = Vec::new(alloc);
+    write_spec(&spec, &mut out)?;
+    Ok(out)
+}
+
+// One read-only component `a` at 0, length 4096: 25 bytes, whatever form the file had that it was read from.
+#[test]
+fn writes_the_shortest_form(rt: HostRuntime) -> Result<(), Fail> {
+    let table = [
+        b"\x08\x02\x12\x03\x0a\x01a\x18\x80\x20".as_slice(),
+        b"\x18\x80\xa0\x80\x00\x12\x07\x10\x00\x0a\x01a\x18\x00\x20\x05\x08\x07\x08\x82\x00".as_slice(),
+    ];
+    for message in table {
+        let out = written_again(rt.alloc(), message)?;
+        assert_eq!(rt;
+            out.as_slice(),
+            b"composite_disk\x1d\x08\x02\x12\x03\x0a\x01a\x18\x80\x20".as_slice()
+        );
     }
     Ok(())
 }

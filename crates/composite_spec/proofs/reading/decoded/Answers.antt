@@ -2,8 +2,8 @@ use Rattle.std.proofs.Common.{◌≡◌, ◌≤◌, true, length, take, Result, 
 use Rattle.std.proofs.lemmas.List.{take_rest}
 use Rattle.std.specs.Str.{bytes_eq}
 use Rattle.composite_spec.specs.declared.kinds.SpecFault.{SpecFault}
-use Rattle.composite_spec.specs.Said.{Composite, composite}
-use Rattle.composite_spec.specs.Reading.{magic, disk_by, Gives}
+use Rattle.composite_spec.specs.Said.{magic, Composite, composite}
+use Rattle.composite_spec.specs.Reading.{disk_by, Gives}
 use Rattle.composite_spec.proofs.Rules.{decoded_is, decoded_fails}
 use Rattle.composite_spec.proofs.reading.decoded.Goals as goal
 
