@@ -38,8 +38,11 @@ is_writable s i = slice_index_or (map write_of s.components) i false
 abbrev pub path_of : Placed → List ℕ
 path_of c = c.path
 
+abbrev pub path_at : Composite → ℕ → List ℕ
+path_at s i = slice_index_or (map path_of s.components) i []
+
 abbrev pub is_path_of : Composite → ℕ → ℕ → Bool
-is_path_of s a b = bytes_eq (slice_index_or (map path_of s.components) a []) (slice_index_or (map path_of s.components) b [])
+is_path_of s a b = bytes_eq (path_at s a) (path_at s b)
 
 -- two components that have one path, and one of the two is writable
 unfoldable pub is_alias : Composite → ℕ → ℕ → Bool
@@ -49,14 +52,14 @@ is_alias s a b = is_path_of s a b && (is_writable s a || is_writable s b)
 abbrev pub NoAliasBelow : Composite → ℕ → Type 0
 NoAliasBelow s k = (a b : ℕ) → a < b → b < k → is_alias s a b ≡ false
 
--- the least component that is an alias of an earlier one, and the least of these, or none
+-- the least component that is an alias of an earlier one, and the least of these, or none, unless memory ran out
 abbrev pub Aliases : {X : Type 0} → Composite → Result X MapFault → Type 0
 Aliases s (Ok m) = NoAliasBelow s (length s.components)
 Aliases s (Err (faults.Alias a b)) = (a < b) × (b < length s.components) × (is_alias s a b ≡ true) × NoAliasBelow s b × ((c : ℕ) → c < a → is_alias s c b ≡ false)
 Aliases s (Err faults.OutOfDisk) = ⊥
 Aliases s (Err (faults.ReadOnly i)) = ⊥
 Aliases s (Err (faults.PastComponent i)) = ⊥
-Aliases s (Err faults.Memory) = ⊥
+Aliases s (Err faults.Memory) = Unit {0}
 
 -- the component i has bytes of the range from `at` to `end`
 pub record IsTouched (s : Composite) (at end i : ℕ) : Type 0 where

@@ -1,54 +1,50 @@
 // Components that have one file.
-ghost use Rattle.std.specs.Prelude.{◌≡◌, ◌<◌, ℕ, true, false, MatchOption, length};
+ghost use Rattle.std.specs.Prelude.{◌≡◌, ◌<◌, ◌||◌, length};
 ghost use Rattle.composite_spec.specs.Said.{composite};
-ghost use Rattle.block_map.specs.Disk.{is_path_of, is_alias, Aliases, NoAliasBelow};
+ghost use Rattle.block_map.specs.Disk.{Aliases, is_writable, path_at};
 
 use crate::map::MapFault;
 use crate::spans::is_writable;
 use composite_spec::Spec;
+use std::alloc::Global;
+use std::collections::BTreeMap;
 
-/// Whether two components have one path.
-fn is_path_of(spec: &Spec, a: usize, b: usize) -> bool
+/// The path of a component.
+fn path_at(spec: &Spec, index: usize) -> &str
+    requires { index < length (composite spec.now).components }
+    ensures { result.now ≡ path_at (composite spec.now) index }
+{
+    spec.components[index].path.as_str()
+}
+
+/// Whether one of two components is writable.
+fn one_writable(spec: &Spec, a: usize, b: usize) -> bool
     requires first { a < length (composite spec.now).components }
     requires second { b < length (composite spec.now).components }
-    ensures { result ≡ is_path_of (composite spec.now) a b }
+    ensures { result ≡ (is_writable (composite spec.now) a || is_writable (composite spec.now) b) }
 {
-    spec.components[a].path.as_bytes() == spec.components[b].path.as_bytes()
+    is_writable(spec, a) || is_writable(spec, b)
 }
 
-/// Whether two components have one path, and one of the two is writable.
-#[tactic(auto, unfolding(crate::specs::Disk::is_alias))]
-fn is_alias(spec: &Spec, a: usize, b: usize) -> bool
-    requires first { a < length (composite spec.now).components }
-    requires second { b < length (composite spec.now).components }
-    ensures { result ≡ is_alias (composite spec.now) a b }
-{
-    is_path_of(spec, a, b) && (is_writable(spec, a) || is_writable(spec, b))
-}
-
-/// The first component that this one is an alias of.
-fn alias_of(spec: &Spec, b: usize) -> Option<usize>
-    requires { b < length (composite spec.now).components }
-    ensures { MatchOption result ((c : ℕ) → c < b → is_alias (composite spec.now) c b ≡ false) (λ a. (a < b) × (is_alias (composite spec.now) a b ≡ true) × ((c : ℕ) → c < a → is_alias (composite spec.now) c b ≡ false)) }
-{
-    for a in 0..b {
-        if is_alias(spec, a, b) {
-            return Some(a);
-        }
-    }
-    None
-}
-
-/// Whether there is an alias among the components.
-pub(crate) fn judge_aliases(spec: &Spec) -> Result<(), MapFault>
+/// Whether there is an alias among the components. Of each path the first component is kept in an ordered map.
+pub(crate) fn judge_aliases(alloc: Global, spec: &Spec) -> Result<(), MapFault>
     ensures { Aliases (composite spec.now) result }
 {
+    let mut firsts: BTreeMap<&str, usize> = BTreeMap::new(alloc);
     for b in 0..spec.components.len() {
-        if let Some(a) = alias_of(spec, b) {
-            return Err(MapFault::Alias {
-                a: a as u64,
-                b: b as u64,
-            });
+        let path = path_at(spec, b);
+        match firsts.get(path).copied() {
+            Some(a) => {
+                if one_writable(spec, a, b) {
+                    return Err(MapFault::Alias {
+                        a: a as u64,
+                        b: b as u64,
+                    });
+                }
+            }
+            None => {
+                firsts.insert(path, b)?;
+            }
         }
     }
     Ok(())

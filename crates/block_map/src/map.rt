@@ -2,11 +2,12 @@
 ghost use Rattle.std.specs.Prelude.{◌≡◌, ◌+◌, ◌-◌, ◌<◌, ◌≤◌, ◌++◌, OnOk, OnErr, IfErr, IfOk, MatchResult, length, take, drop};
 ghost use Rattle.composite_spec.specs.Said.{Composite, IsComposite, composite};
 ghost use Rattle.block_map.specs.Disk.{contents, disk_bytes, Aliases, Judges, AreWritten};
-ghost use Rattle.block_map.specs.declared.map.MapFault.TheVariants.{OutOfDisk};
+ghost use Rattle.block_map.specs.declared.map.MapFault.TheVariants.{OutOfDisk, Memory};
 
 use crate::aliases::judge_aliases;
 use crate::moves::{copy, judge, overwrite};
 use composite_spec::Spec;
+use std::alloc::{AllocFailed, Global};
 use std::marker::Model;
 
 /// Why a map cannot be made, or a range not be read or written. Components are counted from 0.
@@ -22,6 +23,14 @@ pub enum MapFault {
     PastComponent { component: u64 },
     /// Want of memory.
     Memory,
+}
+
+impl<T: Drop> From<AllocFailed<T>> for MapFault {
+    ghost from_gives = { λ _ e. e ≡ Memory };
+
+    fn from(_refused: AllocFailed<T>) -> MapFault {
+        MapFault::Memory
+    }
 }
 
 /// The map of a composite disk. Contracts see what its description says.
@@ -41,15 +50,16 @@ impl Model for Map {
 }
 
 impl Map {
-    /// The map of a disk. It takes no memory.
-    pub fn new(spec: Spec) -> Result<Map, MapFault>
+    /// The map of a disk. The time is that of a look-up by path for each component.
+    pub fn new(alloc: Global, spec: Spec) -> Result<Map, MapFault>
         requires { IsComposite (composite spec) }
         // The map is that of the description.
         ensures value { IfOk result (λ m. m ≡ composite spec) }
-        // It is refused exactly where a component is an alias of an earlier one, by the first such.
+        // It is refused exactly where a component is an alias of an earlier one, by the first such, unless memory
+        // runs out.
         ensures alias { Aliases (composite spec) result }
     {
-        match judge_aliases(&spec) {
+        match judge_aliases(alloc, &spec) {
             Ok(()) => Ok(Map { spec }),
             Err(fault) => Err(fault),
         }

@@ -19,7 +19,7 @@ fn two(alloc: Global, second: u8) -> Result<Spec, Fail>
 
 #[test]
 fn reads_and_writes(rt: HostRuntime) -> Result<(), Fail> {
-    let map = Map::new(two(rt.alloc(), b'b')?)?;
+    let map = Map::new(rt.alloc(), two(rt.alloc(), b'b')?)?;
     let a = vec![in rt.alloc(); 7u8; 100]?;
     let b = vec![in rt.alloc(); 9u8; 256]?;
     let mut files = vec![in rt.alloc(); a, b]?;
@@ -56,7 +56,7 @@ fn reads_and_writes(rt: HostRuntime) -> Result<(), Fail> {
 
 #[test]
 fn refuses_aliases(rt: HostRuntime) -> Result<(), Fail> {
-    let found = match Map::new(two(rt.alloc(), b'a')?) {
+    let found = match Map::new(rt.alloc(), two(rt.alloc(), b'a')?) {
         Ok(_) => Ok(()),
         Err(fault) => Err(fault),
     };
