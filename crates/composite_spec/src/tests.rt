@@ -73,36 +73,41 @@ fn names_the_first_broken_rule(rt: HostRuntime) -> Result<(), Fail> {
     Ok(())
 }
 
-// Paths of so many bytes, behind the lengths of their component and of the path.
+// Paths of so many bytes, behind the lengths of their component and of the path: of characters of two bytes, and one
+// of one byte where the number is odd; and the same with a last byte that UTF-8 doesn't have.
 #[test]
 fn bounds_paths(rt: HostRuntime) -> Result<(), Fail> {
+    let path = Err(SpecFault::Path { index: 0 });
     let table = [
-        (
-            0,
-            b"\x12\x02\x0a\x00".as_slice(),
-            Err(SpecFault::Path { index: 0 }),
-        ),
-        (1, b"\x12\x03\x0a\x01".as_slice(), Ok(())),
-        (255, b"\x12\x82\x02\x0a\xff\x01".as_slice(), Ok(())),
-        (
-            256,
-            b"\x12\x83\x02\x0a\x80\x02".as_slice(),
-            Err(SpecFault::Path { index: 0 }),
-        ),
+        (0u32, b"\x12\x02\x0a\x00".as_slice(), path, path),
+        (1, b"\x12\x03\x0a\x01".as_slice(), Ok(()), path),
+        (255, b"\x12\x82\x02\x0a\xff\x01".as_slice(), Ok(()), path),
+        (256, b"\x12\x83\x02\x0a\x80\x02".as_slice(), path, path),
     ];
-    for (n, front, want) in table {
-        let mut bytes = MAGIC.to_vec(rt.alloc())?;
-        bytes.extend_from_slice(b"\x08\x02")?;
-        bytes.extend_from_slice(front)?;
-        for _ in 0..n {
-            bytes.push(b'p')?;
+    for (n, front, text, other) in table {
+        for (last, want) in [(None, text), (Some(0xff), other)] {
+            let mut bytes = MAGIC.to_vec(rt.alloc())?;
+            bytes.extend_from_slice(b"\x08\x02")?;
+            bytes.extend_from_slice(front)?;
+            for _ in 0..n / 2 {
+                bytes.extend_from_slice("é".as_bytes())?;
+            }
+            if n % 2 == 1 {
+                bytes.push(b'p')?;
+            }
+            if let Some(byte) = last {
+                if n != 0 {
+                    let _ = bytes.pop();
+                    bytes.push(byte)?;
+                }
+            }
+            bytes.extend_from_slice(b"\x18\x80\x20")?;
+            let found = match read_spec(rt.alloc(), bytes.as_slice()) {
+                Ok(_) => Ok(()),
+                Err(fault) => Err(fault),
+            };
+            assert_eq!(rt; found, want, "{n}");
         }
-        bytes.extend_from_slice(b"\x18\x80\x20")?;
-        let found = match read_spec(rt.alloc(), bytes.as_slice()) {
-            Ok(_) => Ok(()),
-            Err(fault) => Err(fault),
-        };
-        assert_eq!(rt; found, want, "{n}");
     }
     Ok(())
 }
@@ -153,6 +158,35 @@ fn writes_the_shortest_form(rt: HostRuntime) -> Result<(), Fail> {
             out.as_slice(),
             b"composite_disk\x1d\x08\x02\x12\x03\x0a\x01a\x18\x80\x20".as_slice()
         );
+    }
+    Ok(())
+}
+
+// A disk of two files between the ends of its partition table, in the bytes that protoc writes for it.
+#[test]
+fn writes_four_components(rt: HostRuntime) -> Result<(), Fail> {
+    let out = written_again(
+        rt.alloc(),
+        b"\x18\x80\xe0\x4e\x12\x06\x0a\x04head\x12\x09\x10\x80\xa0\x01\x0a\x03apk\x12\x0b\x10\x80\xa0\x4c\x0a\x05idsig\x12\x0a\x10\x80\xc0\x4d\x0a\x04tail\x08\x02",
+    )?;
+    let mut want = MAGIC.to_vec(rt.alloc())?;
+    want.extend_from_slice(
+        b"\x08\x02\x12\x06\x0a\x04head\x12\x09\x0a\x03apk\x10\x80\xa0\x01\x12\x0b\x0a\x05idsig\x10\x80\xa0\x4c\x12\x0a\x0a\x04tail\x10\x80\xc0\x4d\x18\x80\xe0\x4e",
+    )?;
+    assert_eq!(rt; out.as_slice(), want.as_slice());
+    let spec = read_spec(rt.alloc(), out.as_slice())?;
+    assert_eq!(rt; spec.length, 1_290_240);
+    let table = [
+        ("head", 0),
+        ("apk", 20_480),
+        ("idsig", 1_249_280),
+        ("tail", 1_269_760),
+    ];
+    assert_eq!(rt; spec.components.len(), table.len());
+    for (component, (path, offset)) in spec.components.iter().zip(table) {
+        assert_eq!(rt; component.path.as_str(), path);
+        assert_eq!(rt; component.offset, offset);
+        assert!(rt; !component.write);
     }
     Ok(())
 }
