@@ -65,6 +65,13 @@ impl Map {
         }
     }
 
+    /// The description that the map was made of.
+    pub fn spec(&self) -> &Spec
+        ensures { composite result.now ≡ self.now }
+    {
+        &self.spec
+    }
+
     /// How many components there are, and so how many files a call needs.
     pub fn components(&self) -> usize
         ensures { result ≡ length self.now.components }
