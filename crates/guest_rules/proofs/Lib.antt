@@ -1,2 +1,6 @@
 pub mod Standing
 pub mod Runs
+pub mod Holding
+pub mod Devices
+pub mod Serving
+pub mod Requests

@@ -1,10 +1,9 @@
 -- Frames answered one by one: a turn from the work that was done for it, and one turn more.
-use Rattle.std.proofs.Common.{◌≡◌, ℕ, ◌+◌, ◌^◌, ◌<◌, ◌≤◌, List, [], ◌∷◌, ◌++◌, length, refl, ap, sym, subst, ◌∙◌, Option, Some, None, append_assoc, append-nil, inl, inr, arith}
+use Rattle.std.proofs.Common.{◌≡◌, ℕ, ◌+◌, ◌^◌, ◌<◌, ◌≤◌, List, [], ◌∷◌, ◌++◌, refl, ap, sym, subst, ◌∙◌, Option, Some, None, append_assoc, append-nil, inl, inr, arith}
 use Rattle.std.specs.Prelude.{flat_map, ◌⊎◌}
 use Rattle.std.specs.Io.KnownBytes.{Appends}
-use Rattle.std.proofs.lemmas.List.{length-append}
 use Rattle.host_traits.specs.declared.calls.Call.{Call}
-use Rattle.host_traits.specs.Told.{Told, Exchanges, Talked, Failures, heard_more, heard_size}
+use Rattle.host_traits.specs.Told.{Told, Exchanges, Failures, heard_more, heard_size}
 use Rattle.host_traits.specs.Did.{Trace, trace_of, trace_after, Did}
 use Rattle.host_traits.proofs.Talking.{talked_not, talked_on}
 use Rattle.session_frames.specs.Frames.{Framed}
@@ -13,7 +12,7 @@ use Rattle.session_frames.proofs.Prefixes.{appends_then}
 use Rattle.verity_path.specs.declared.device.Cause.{Cause}
 use Rattle.verity_path.specs.declared.device.Device.{Device}
 use Rattle.guest_rules.specs.Machine.{State, Moment, moment, Turn, nowhere, request_of}
-use Rattle.guest_rules.specs.Step.{IsFor, most_for, Row, Step, Stepped, WhyRefused}
+use Rattle.guest_rules.specs.Step.{IsFor, most_for, Row, Stepped, WhyRefused}
 use Rattle.guest_rules.specs.Run.{Run, Runs, Ran, out_bytes, log_line, log_bytes, frame_size, frames_of}
 
 -- what the host tells of a failure, at the moments before and after

@@ -1,6 +1,6 @@
 -- A run in the world without contents is one in each world that meets the premises.
-use Rattle.std.proofs.Common.{◌≡◌, ℕ, ◌+◌, ◌*◌, ◌<◌, ◌≤◌, List, [], ◌∷◌, ◌++◌, take, drop, refl, ap, sym, ◌∙◌, inl, inr, ⊎_elim, append_assoc, append-nil, Option, Some, None, arith}
-use Rattle.std.specs.Prelude.{slice_get, ◌⊎◌}
+use Rattle.std.proofs.Common.{◌≡◌, ℕ, List, [], ◌∷◌, ◌++◌, take, drop, refl, ap, sym, ◌∙◌, inl, inr, ⊎_elim, append_assoc, append-nil, Option, Some, None}
+use Rattle.std.specs.Prelude.{slice_get}
 use Rattle.host_traits.specs.Told.{Exchanges}
 use Rattle.host_traits.specs.Did.{Trace}
 use Rattle.session_frames.specs.Replies.{Sent}
@@ -15,11 +15,11 @@ use Rattle.verity_path.specs.declared.device.Cause.{Cause}
 use Rattle.verity_path.specs.declared.device.Device.{Device}
 use Rattle.guest_rules.specs.Machine.{State, World, nowhere, Moment, Turn, ItemRead, Request, read_of, unbuilt, request_of, size_of}
 use Rattle.guest_rules.specs.ItemRow.{ItemRow, no_item, too_large, served, blamed, no_memory}
-use Rattle.guest_rules.specs.Step.{Row, Step}
+use Rattle.guest_rules.specs.Step.{Row}
 use Rattle.guest_rules.specs.Run.{Run, IsRunHashed, IsWorld, RunsStand}
 
 -- what is hashed for one item is hashed in the run
-item_hashed : (items : List Device) (world : World) (heard : Exchanges) (k : ℕ) (it : Device) (content : List ℕ) → slice_get items k ≡ Some it → world k ≡ Some content
+pub item_hashed : (items : List Device) (world : World) (heard : Exchanges) (k : ℕ) (it : Device) (content : List ℕ) → slice_get items k ≡ Some it → world k ≡ Some content
     → (x : List ℕ) → IsHashed heard content it.measure.salt x → IsRunHashed items world heard x
 item_hashed items world heard k it content at is x (inl seen) = inl (k, it, at, seen.p, seen.piece, seen.is)
 item_hashed items world heard k it content at is x (inr input) = inr (k, it, content, at, is, input)

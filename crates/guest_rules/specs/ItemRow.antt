@@ -5,7 +5,7 @@ use Rattle.host_traits.specs.Did.{Trace}
 use Rattle.session_frames.specs.Replies.{Sent, sent_bytes, sent_code}
 use Rattle.verity_path.specs.declared.device.Cause.{Cause}
 use Rattle.verity_path.specs.declared.device.Device.{Device}
-use Rattle.verity_path.specs.Range.{IsForRead, IsSlice, IsReadBlame, most_answers}
+use Rattle.verity_path.specs.Range.{IsForRead, IsSlice, IsReadBlame}
 use Rattle.guest_rules.specs.Machine.{World, ItemRead, size_of}
 
 -- the calls that a read of an item may make

@@ -2,3 +2,4 @@ pub mod Machine
 pub mod ItemRow
 pub mod Step
 pub mod Run
+pub mod Faithful

@@ -1,8 +1,15 @@
 // Laws of runs.
+ghost use Rattle.guest_rules.specs.Faithful.{ReadsAreServed};
 ghost use Rattle.guest_rules.specs.Run.{RunsStand};
 
 /// A run whose bytes are cut from pages that are tied to the roots is a run in each world that meets the premises: there each
 /// byte is the content's. Its contract is the law; it does nothing.
 pub fn runs_stand_in_each_world()
     ensures { RunsStand }
+{}
+
+/// Over a faithful host that holds an item as the world has it, a read of the item in which the count of failures doesn't rise
+/// has its defined reply, or want of memory; and what is held stays. Its contract is the law; it does nothing.
+pub fn reads_are_served()
+    ensures { ReadsAreServed }
 {}

@@ -1,0 +1,5 @@
+use Rattle.guest_rules.proofs.Serving.{all_served}
+use Rattle.guest_rules.proofs.laws.reads_are_served.Goals as goal
+
+pub returns : goal.returns
+returns c = all_served
