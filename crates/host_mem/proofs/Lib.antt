@@ -1,5 +1,10 @@
-pub mod Serving
+pub mod NameKeys
+pub mod ByteLists
+pub mod Kept
+pub mod TreeKeys
+pub mod Trees
+pub mod Components
+pub mod Composites
 pub mod Changes
-pub mod Finds
-pub mod Keys
-pub mod Puts
+pub mod Serving
+pub mod Bending

@@ -1,12 +1,12 @@
 -- What a host in memory answers.
-use Rattle.std.proofs.Common.{Bool, true, false, ◌≡◌, ℕ, ◌+◌, ◌-◌, ◌^◌, ◌<◌, ◌≤◌, min, List, [], ◌∷◌, length, refl, ap, sym, ◌∙◌, subst, arith, inl, inr, Option, Some, None}
+use Rattle.std.proofs.Common.{true, false, ◌≡◌, ℕ, ◌+◌, ◌-◌, ◌^◌, ◌<◌, min, List, [], ◌∷◌, refl, ap, sym, ◌∙◌, subst, arith, inl, inr, Some, None}
 use Rattle.std.specs.Prelude.{Result, Ok, Err}
 use Rattle.host_traits.specs.declared.calls.Call.{Call}
 use Rattle.host_traits.specs.declared.calls.Said.{Said}
 use Rattle.host_traits.specs.declared.host.HostError.{HostError}
 use Rattle.host_traits.specs.declared.host.HostError.TheVariants.{Failed, Memory}
 use Rattle.host_traits.specs.Held.{Held, serve}
-use Rattle.host_traits.specs.Told.{Told, Asked, Answered, Refused, Unheard, MayRefuse}
+use Rattle.host_traits.specs.Told.{Asked, Answered, Refused, Unheard}
 use Rattle.host_traits.proofs.Talking.{answered, refused, unheard}
 use Rattle.host_mem.specs.Mem.{Count, Mem, Begins, Ends, Does, FailsBy, is_listed, is_none, counted, failed, told_by, mem_held}
 

@@ -1,10 +1,13 @@
 -- What a host in memory is, what it tells, and when it fails.
-use Rattle.std.specs.Prelude.{◌≡◌, ◌+◌, ◌*◌, ◌<◌, ◌^◌, nat_le, length, cond, not, ◌||◌, Bool, true, false, ℕ, nat_eq, ◌&&◌, if◌then◌else◌, List, [], ◌∷◌, replicate, Option, Some, None, Result, Ok, Err, ◌⊎◌}
-use Rattle.std.specs.Ordering.{nat_cmp}
+use Rattle.std.specs.Prelude.{◌≡◌, ◌+◌, ◌-◌, ◌*◌, ◌/◌, ◌%◌, ◌<◌, ◌≤◌, ◌^◌, nat_le, nat_lt, length, cond, not, ◌||◌, Bool, true, false, ℕ, nat_eq, if◌then◌else◌, List, [], ◌∷◌, map, replicate, slice_index, take, drop, unwrap_or, IsSome, Option, Some, None, Result, Ok, Err, ◌⊎◌}
+use Rattle.std.specs.Option.{option_map}
+use Rattle.std.specs.declared.cmp.Ordering.{Ordering}
+use Rattle.std.specs.Ordering.{nat_cmp, ordering_then}
 use Rattle.std.specs.BTreeMap.{is_at}
 use Rattle.std.specs.Map.{lookup}
-use Rattle.std.specs.List.{list_any}
+use Rattle.std.specs.List.{list_any, range_with_len}
 use Rattle.std.specs.Cmp.Lexicographic.{pointwise}
+use Rattle.composite_spec.specs.Said.{Composite, IsComposite}
 use Rattle.host_traits.specs.declared.calls.Call.{Call}
 use Rattle.host_traits.specs.declared.calls.Said.{Said}
 use Rattle.host_traits.specs.declared.host.HostError.{HostError}
@@ -12,6 +15,8 @@ use Rattle.host_traits.specs.declared.host.HostError.TheVariants.{Failed, Memory
 use Rattle.host_traits.specs.Held.{Held, File, Disk, name_with, serve}
 use Rattle.host_traits.specs.Mem.{one_more}
 use Rattle.host_traits.specs.Told.{Told}
+use Rattle.sha_tree.specs.Tree.{place}
+use Rattle.host_mem.specs.Made.{plain_disk, composite_disk}
 
 -- the entries of a map with keys that are numbers
 abbrev pub Entries : Type 0 → Type 0
@@ -20,69 +25,112 @@ Entries A = List (ℕ × A)
 abbrev pub at : {A : Type 0} → Entries A → ℕ → Option A
 at entries k = lookup (is_at (nat_cmp k)) entries
 
--- the value of the first entry with a key
-abbrev pub find_in : {K V : Type 0} → (K → K → Bool) → List (K × V) → K → Option V
-find_in same [] key = None
-find_in same (e ∷ es) key = if same e.0 key then Some e.1 else find_in same es key
+-- new has a at k, and else what old has
+abbrev pub Puts : {A : Type 0} → Entries A → Entries A → ℕ → A → Type 0
+Puts old new k a = (q : ℕ) → at new q ≡ cond (is_at (nat_cmp k) q) (Some a) (at old q)
 
--- the place of the first entry with a key, or the number of entries
-abbrev pub place_in : {K V : Type 0} → (K → K → Bool) → List (K × V) → K → ℕ
-place_in same [] key = 0
-place_in same (e ∷ es) key = if same e.0 key then 0 else place_in same es key + 1
+-- ---- the bytes of a file, kept as pages of 4096 bytes by their numbers
 
--- names, and whether each is there now
-abbrev pub NameList : Type 0
-NameList = List (List ℕ × Bool)
+-- the byte at a place: where there is no page, 0
+unfoldable pub byte_in : Entries (List ℕ) → ℕ → ℕ
+byte_in pages place = slice_index (unwrap_or (at pages (place / 4096)) []) (place % 4096)
 
-abbrev pub is_name : List ℕ → List ℕ → Bool
-is_name a b = pointwise nat_eq a b
+-- so many bytes from a place on
+abbrev pub bytes_in : Entries (List ℕ) → ℕ → ℕ → List ℕ
+bytes_in pages place count = map (byte_in pages) (range_with_len place count)
 
-abbrev pub or_false : Option Bool → Bool
-or_false None = false
-or_false (Some b) = b
+-- the bytes from a place on put over those that f gives
+abbrev pub byte_over : ℕ → List ℕ → (ℕ → ℕ) → ℕ → ℕ
+byte_over at bytes f place = if nat_lt place at || nat_le (at + length bytes) place then f place else slice_index bytes (place - at)
 
-abbrev pub has_name : NameList → List ℕ → Bool
-has_name names name = or_false (find_in is_name names name)
+-- the bytes up to a size
+unfoldable pub sparse_bytes : ℕ → Entries (List ℕ) → List ℕ
+sparse_bytes size pages = bytes_in pages 0 size
 
--- tree pages, by level and index
+-- some page has this number or a larger one
+pub record Reaches (pages : Entries (List ℕ)) (limit : ℕ) : Type 0 where
+  pub number : ℕ
+  pub there : IsSome (at pages number)
+  pub from : limit ≤ number
+
+-- past the size each byte is 0
+abbrev pub IsCutAt : ℕ → Entries (List ℕ) → Type 0
+IsCutAt size pages = (place : ℕ) → size ≤ place → byte_in pages place ≡ 0
+
+-- ---- tree pages, by level and index
+
 abbrev pub Pages : Type 0
 Pages = List ((ℕ × ℕ) × List ℕ)
 
-abbrev pub is_place : ℕ × ℕ → ℕ × ℕ → Bool
-is_place a b = nat_eq a.0 b.0 && nat_eq a.1 b.1
+-- by level, and then by index
+abbrev pub place_cmp : ℕ × ℕ → ℕ × ℕ → Ordering
+place_cmp a b = ordering_then (nat_cmp a.0 b.0) (nat_cmp a.1 b.1)
 
 abbrev pub or_zeros : Option (List ℕ) → List ℕ
 or_zeros None = replicate 4096 0
 or_zeros (Some page) = page
 
--- a file: its bytes, its descriptor, and the tree pages that were written
+abbrev pub page_in : Pages → ℕ → ℕ → List ℕ
+page_in pages level i = or_zeros (lookup (is_at (place_cmp (level, i))) pages)
+
+-- the page of a level and index in a stored tree over so many blocks
+abbrev pub stored_page : ℕ → List ℕ → ℕ → ℕ → List ℕ
+stored_page count stored level i = take 4096 (drop (4096 * place count level i) stored)
+
+-- a file: its bytes, its descriptor, and the tree pages that it has
 pub record FileData : Type 0 where
   pub bytes : List ℕ
   pub descriptor : List ℕ
   pub pages : Pages
 
+abbrev pub blank_file : FileData
+blank_file = record { bytes = []; descriptor = []; pages = [] }
+
 abbrev pub file_of : FileData → File
-file_of f = record { bytes = f.bytes; descriptor = f.descriptor; tree = λ level index. or_zeros (find_in is_place f.pages (level, index)) }
+file_of f = record { bytes = f.bytes; descriptor = f.descriptor; tree = page_in f.pages }
 
-abbrev pub disk_of : List ℕ → Disk
-disk_of bytes = record { bytes = bytes; writable = λ place. true }
+-- ---- disks
 
-abbrev pub some_of : {A B : Type 0} → (A → B) → Option A → Option B
-some_of f None = None
-some_of f (Some a) = Some (f a)
+-- a plain disk's bytes, or what a composite disk's map says and the files of its components
+pub data DiskData : Type 0 where
+  plain_of : List ℕ → DiskData
+  composite_of : Composite → List (List ℕ) → DiskData
+
+abbrev pub disk_of : DiskData → Disk
+disk_of (plain_of bytes) = plain_disk bytes
+disk_of (composite_of s files) = composite_disk s files
+
+-- a description that a map can be made of, and a file for each component
+pub record IsMapped (s : Composite) (files : List (List ℕ)) : Type 0 where
+  pub is : IsComposite s
+  pub count : length files ≡ length s.components
+
+abbrev pub IsDisk : DiskData → Type 0
+IsDisk (plain_of bytes) = Unit {0}
+IsDisk (composite_of s files) = IsMapped s files
+
+-- ---- directories
+
+abbrev pub NameList : Type 0
+NameList = List (List ℕ)
+
+abbrev pub has_name : NameList → List ℕ → Bool
+has_name names name = list_any (pointwise nat_eq name) names
+
+-- ---- the host
 
 -- what is held
-abbrev pub held_of : Entries (List ℕ) → Entries FileData → Entries NameList → Held
+abbrev pub held_of : Entries DiskData → Entries FileData → Entries NameList → Held
 held_of disks files dirs = record {
-  disk = λ n. some_of disk_of (at disks n);
-  file = λ n. some_of file_of (at files n);
-  dir = λ n. some_of has_name (at dirs n);
+  disk = λ n. option_map disk_of (at disks n);
+  file = λ n. option_map file_of (at files n);
+  dir = λ n. option_map has_name (at dirs n);
 }
 
 -- does a disk have these sectors?
-abbrev pub covers : Option (List ℕ) → ℕ → ℕ → Bool
+abbrev pub covers : Option DiskData → ℕ → ℕ → Bool
 covers None sector count = false
-covers (Some bytes) sector count = nat_le (512 * (sector + count)) (length bytes)
+covers (Some d) sector count = nat_le (512 * (sector + count)) (length (disk_of d).bytes)
 
 -- does a directory have this name?
 abbrev pub names_have : Option NameList → List ℕ → Bool
@@ -93,10 +141,6 @@ names_have (Some names) name = has_name names name
 abbrev pub may_make : Option NameList → Bool → Bool → List ℕ → Bool
 may_make None file dir name = false
 may_make (Some names) file dir name = not (has_name names name || file || dir)
-
--- new has a at k, and else what old has
-abbrev pub Puts : {A : Type 0} → Entries A → Entries A → ℕ → A → Type 0
-Puts old new k a = (q : ℕ) → at new q ≡ cond (is_at (nat_cmp k) q) (Some a) (at old q)
 
 -- one name more in a directory
 pub record Named (old new : Entries NameList) (k : ℕ) (name : List ℕ) : Type 0 where
@@ -122,7 +166,7 @@ is_listed t = list_any (λ k. nat_eq k t.calls) t.failing
 
 -- a host in memory
 pub record Mem : Type 0 where
-  pub disks : Entries (List ℕ)
+  pub disks : Entries DiskData
   pub files : Entries FileData
   pub dirs : Entries NameList
   pub count : Count

@@ -3,7 +3,7 @@ ghost use Rattle.std.specs.Prelude.{◌≡◌, List, ℕ, [], OnOk, OnErr, IsSom
 ghost use Rattle.host_traits.specs.declared.calls.Call.TheVariants.{Create, Mkdir, Delete};
 ghost use Rattle.host_traits.specs.declared.calls.Said.TheVariants.{Done};
 ghost use Rattle.host_traits.specs.Held.{is_there};
-ghost use Rattle.host_mem.specs.Mem.{Named, Entries, FileData, Does, at, held_of, names_have, may_make, Puts};
+ghost use Rattle.host_mem.specs.Mem.{Named, Entries, DiskData, FileData, Does, at, held_of, names_have, may_make, Puts};
 
 use crate::mem_file::MemFile;
 use crate::names::Names;
@@ -22,22 +22,22 @@ fn has(dirs: &BTreeMap<u32, Names>, dir: u32, name: &[u8]) -> bool
     }
 }
 
+/// Takes a name away from a directory. It takes no memory.
 pub(crate) fn delete(
-    alloc: Global,
     dirs: &mut BTreeMap<u32, Names>,
     dir: u32,
     name: &[u8],
 ) -> Result<(), HostError>
-    ensures { (disks : Entries (List ℕ)) (files : Entries FileData) → Does (Delete dir) name.now (λ _. Done) result (held_of disks files dirs.old.entries) (held_of disks files dirs.new.entries) }
+    ensures { (disks : Entries DiskData) (files : Entries FileData) → Does (Delete dir) name.now (λ _. Done) result (held_of disks files dirs.old.entries) (held_of disks files dirs.new.entries) }
 {
     if !has(dirs, dir, name) {
         return Err(HostError::Failed);
     }
     match dirs.get_mut(&dir) {
-        Some(names) => match names.put(alloc, name, false) {
-            Ok(()) => Ok(()),
-            Err(_) => Err(HostError::Memory),
-        },
+        Some(names) => {
+            names.remove(name);
+            Ok(())
+        }
         None => Err(HostError::Failed),
     }
 }
@@ -72,7 +72,7 @@ fn add_name(
     ensures err { OnErr result (dirs.new.entries ≡ dirs.old.entries) }
 {
     match dirs.get_mut(&dir) {
-        Some(names) => match names.put(alloc, name, true) {
+        Some(names) => match names.add(alloc, name) {
             Ok(()) => Ok(()),
             Err(_) => Err(HostError::Memory),
         },
@@ -80,6 +80,7 @@ fn add_name(
     }
 }
 
+/// Makes an empty file with a name.
 pub(crate) fn create(
     alloc: Global,
     files: &mut BTreeMap<u32, MemFile>,
@@ -88,7 +89,7 @@ pub(crate) fn create(
     name: &[u8],
     file: u32,
 ) -> Result<(), HostError>
-    ensures { (disks : Entries (List ℕ)) → Does (Create dir file) name.now (λ _. Done) result (held_of disks files.old.entries dirs.old.entries) (held_of disks files.new.entries dirs.new.entries) }
+    ensures { (disks : Entries DiskData) → Does (Create dir file) name.now (λ _. Done) result (held_of disks files.old.entries dirs.old.entries) (held_of disks files.new.entries dirs.new.entries) }
 {
     if !may_make(files, dirs, dir, name, file) {
         return Err(HostError::Failed);
@@ -106,6 +107,7 @@ pub(crate) fn create(
     }
 }
 
+/// Makes an empty directory with a name.
 pub(crate) fn mkdir(
     alloc: Global,
     files: &BTreeMap<u32, MemFile>,
@@ -114,7 +116,7 @@ pub(crate) fn mkdir(
     name: &[u8],
     file: u32,
 ) -> Result<(), HostError>
-    ensures { (disks : Entries (List ℕ)) → Does (Mkdir dir file) name.now (λ _. Done) result (held_of disks files.now.entries dirs.old.entries) (held_of disks files.now.entries dirs.new.entries) }
+    ensures { (disks : Entries DiskData) → Does (Mkdir dir file) name.now (λ _. Done) result (held_of disks files.now.entries dirs.old.entries) (held_of disks files.now.entries dirs.new.entries) }
 {
     if !may_make(files, dirs, dir, name, file) {
         return Err(HostError::Failed);
@@ -132,6 +134,7 @@ pub(crate) fn mkdir(
     }
 }
 
+/// Puts an empty directory.
 pub(crate) fn add(alloc: Global, dirs: &mut BTreeMap<u32, Names>, dir: u32) -> Result<(), Memory>
     ensures added { OnOk result (Puts dirs.old.entries dirs.new.entries dir []) }
     ensures unchanged { OnErr result (dirs.new.entries ≡ dirs.old.entries) }

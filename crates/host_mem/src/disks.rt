@@ -1,59 +1,16 @@
 // The disks of a host, by number.
-ghost use Rattle.std.specs.Prelude.{◌≡◌, ◌≤◌, ◌<◌, ◌+◌, ◌-◌, ◌*◌, ◌/◌, ◌%◌, ◌^◌, List, ℕ, [], length, take, drop, nat_le, OnOk, OnErr};
+ghost use Rattle.std.specs.Prelude.{◌≡◌, ◌≤◌, ◌<◌, ◌+◌, ◌-◌, ◌*◌, ◌/◌, ◌%◌, ◌^◌, List, ℕ, [], length, take, drop, nat_le, OnOk, OnErr, IfOk};
+ghost use Rattle.std.specs.Option.{option_map};
 ghost use Rattle.host_traits.specs.declared.calls.Call.TheVariants.{BlockSize, BlockRead, BlockWrite, BlockSync};
 ghost use Rattle.host_traits.specs.declared.calls.Said.TheVariants.{Number, Bytes, Done};
-ghost use Rattle.host_traits.specs.Held.{over};
 ghost use Rattle.host_traits.specs.Told.{Fills};
-ghost use Rattle.host_mem.specs.Mem.{Entries, FileData, NameList, Does, Puts, at, covers, held_of};
+ghost use Rattle.host_mem.specs.Mem.{Entries, DiskData, FileData, NameList, Does, Puts, at, covers, disk_of, held_of};
 
-use crate::mem_file::put;
+use crate::mem_disk::MemDisk;
 use host_traits::{HostError, Raw};
 use mg_base::Memory;
+use std::alloc::Global;
 use std::collections::BTreeMap;
-use std::marker::Model;
-
-/// The bytes of a disk, each of which may be written.
-#[derive(Drop)]
-pub(crate) struct MemDisk {
-    bytes: Vec<u8>,
-}
-
-impl Model for MemDisk {
-    ghost use Rattle.std.specs.Prelude.{List, ℕ};
-
-    ghost Value = { List ℕ };
-
-    ghost view = { λ a. a.bytes.items };
-}
-
-impl MemDisk {
-    pub(crate) fn new(bytes: Vec<u8>) -> MemDisk
-        ensures { result ≡ bytes.items }
-    {
-        MemDisk { bytes }
-    }
-
-    fn len(&self) -> u64
-        ensures { result ≡ length self.now }
-    {
-        self.bytes.len() as u64
-    }
-
-    fn read(&self, at: usize, len: usize, raw: &mut Raw)
-        requires most { len ≤ 69632 }
-        requires inside { at + len ≤ length self.now }
-        ensures { raw.new ≡ take len (drop at self.now) }
-    {
-        raw.put(&self.bytes[at..at + len]);
-    }
-
-    fn write(&mut self, at: usize, bytes: &[u8])
-        requires inside { at + length bytes.now ≤ length self.old }
-        ensures { self.new ≡ over self.old at bytes.now }
-    {
-        put(&mut self.bytes, at, bytes);
-    }
-}
 
 // Do so many sectors end within so many bytes?
 fn is_inside(len: u64, sector: u64, count: u32) -> bool
@@ -73,6 +30,7 @@ fn has(disks: &BTreeMap<u32, MemDisk>, disk: u32, sector: u64, count: u32) -> bo
     }
 }
 
+/// How many sectors a disk has.
 pub(crate) fn size(disks: &BTreeMap<u32, MemDisk>, disk: u32) -> Result<u64, HostError>
     ensures { (files : Entries FileData) (dirs : Entries NameList) → Does (BlockSize disk) [] (λ n. Number n) result (held_of disks.now.entries files dirs) (held_of disks.now.entries files dirs) }
 {
@@ -82,6 +40,7 @@ pub(crate) fn size(disks: &BTreeMap<u32, MemDisk>, disk: u32) -> Result<u64, Hos
     }
 }
 
+/// What was written stays: is there such a disk?
 pub(crate) fn sync(disks: &BTreeMap<u32, MemDisk>, disk: u32) -> Result<(), HostError>
     ensures { (files : Entries FileData) (dirs : Entries NameList) → Does (BlockSync disk) [] (λ _. Done) result (held_of disks.now.entries files dirs) (held_of disks.now.entries files dirs) }
 {
@@ -94,7 +53,9 @@ pub(crate) fn sync(disks: &BTreeMap<u32, MemDisk>, disk: u32) -> Result<(), Host
     }
 }
 
+/// Reads sectors of a disk.
 pub(crate) fn read(
+    alloc: Global,
     disks: &BTreeMap<u32, MemDisk>,
     disk: u32,
     sector: u64,
@@ -106,19 +67,20 @@ pub(crate) fn read(
     ensures does { (files : Entries FileData) (dirs : Entries NameList) → Does (BlockRead disk sector count) [] (λ _. Bytes raw.new) result (held_of disks.now.entries files dirs) (held_of disks.now.entries files dirs) }
     ensures fills { Fills (512 * count) result raw.new }
 {
-    match disks.get(&disk) {
-        Some(held) => {
-            if is_inside(held.len(), sector, count) {
-                held.read(512 * sector as usize, 512 * count as usize, raw);
-                Ok(())
-            } else {
-                Err(HostError::Failed)
-            }
-        }
-        None => Err(HostError::Failed),
+    let held = match disks.get(&disk) {
+        Some(held) => held,
+        None => return Err(HostError::Failed),
+    };
+    if !is_inside(held.len(), sector, count) {
+        return Err(HostError::Failed);
+    }
+    match held.read(alloc, 512 * sector, 512 * count as usize, raw) {
+        Ok(()) => Ok(()),
+        Err(_) => Err(HostError::Memory),
     }
 }
 
+/// Writes sectors of a disk.
 pub(crate) fn write(
     disks: &mut BTreeMap<u32, MemDisk>,
     disk: u32,
@@ -135,24 +97,45 @@ pub(crate) fn write(
     match disks.get_mut(&disk) {
         Some(held) => {
             let _len = held.len();
-            held.write(512 * sector as usize, bytes);
-            Ok(())
+            if held.write(512 * sector, bytes) {
+                Ok(())
+            } else {
+                Err(HostError::Failed)
+            }
         }
         None => Err(HostError::Failed),
     }
 }
 
+/// Puts a disk under a number.
 pub(crate) fn add(
     disks: &mut BTreeMap<u32, MemDisk>,
-    disk: u32,
-    bytes: Vec<u8>,
+    number: u32,
+    disk: MemDisk,
 ) -> Result<(), Memory>
-    ensures added { OnOk result (Puts disks.old.entries disks.new.entries disk bytes.items) }
+    ensures added { OnOk result (Puts disks.old.entries disks.new.entries number disk) }
     ensures unchanged { OnErr result (disks.new.entries ≡ disks.old.entries) }
 {
-    match disks.insert(disk, MemDisk::new(bytes)) {
+    match disks.insert(number, disk) {
         Ok(_) => {}
         Err(_) => return Err(Memory),
     }
     Ok(())
+}
+
+/// The bytes of a disk: None exactly where there is no such number.
+pub(crate) fn bytes(
+    alloc: Global,
+    disks: &BTreeMap<u32, MemDisk>,
+    disk: u32,
+) -> Result<Option<Vec<u8>>, Memory>
+    ensures { IfOk result (λ bytes. option_map (λ v. v.items) bytes ≡ option_map (λ d. (disk_of d).bytes) (at disks.now.entries disk)) }
+{
+    match disks.get(&disk) {
+        Some(held) => match held.bytes(alloc) {
+            Ok(bytes) => Ok(Some(bytes)),
+            Err(_) => Err(Memory),
+        },
+        None => Ok(None),
+    }
 }

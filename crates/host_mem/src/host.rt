@@ -1,17 +1,27 @@
 // A host in memory.
-ghost use Rattle.std.specs.Prelude.{◌≡◌, ◌≤◌, ◌+◌, ◌*◌, ◌/◌, ◌%◌, ◌^◌, List, ℕ, [], length, None, OnOk, OnErr};
+ghost use Rattle.std.specs.Prelude.{◌≡◌, ◌≤◌, ◌+◌, ◌*◌, ◌/◌, ◌%◌, ◌^◌, ◌||◌, List, ℕ, [], length, false, None, OnOk, OnErr, IfOk};
+ghost use Rattle.std.specs.Bool.{OnFalse};
+ghost use Rattle.std.specs.Option.{option_map};
 ghost use Rattle.host_traits.specs.declared.calls.Call.TheVariants.{BlockSize, BlockRead, BlockWrite, BlockSync, FileRead, TreeRead, Descriptor, FileWrite, TreeWrite, Resize, Create, Mkdir, Delete};
 ghost use Rattle.host_traits.specs.declared.calls.Said.TheVariants.{Number, Bytes, Done};
+ghost use Rattle.host_traits.specs.Held.{empty_file, is_there, with_dir, with_file};
 ghost use Rattle.host_traits.specs.Told.{Asked, Fills, Told, IsHeardSize};
-ghost use Rattle.host_mem.specs.Mem.{Mem, FailsBy, Puts, at, mem_told, unused};
+ghost use Rattle.composite_spec.specs.Said.{IsComposite, composite};
+ghost use Rattle.block_map.specs.Disk.{contents};
+ghost use Rattle.host_mem.specs.Made.{RefusesAlias, composite_disk, nothing, plain_disk, verity_file, with_disk};
+ghost use Rattle.host_mem.specs.Mem.{FailsBy, mem_held, mem_told, unused};
 
 use crate::count::Tally;
-use crate::disks::{self, MemDisk};
+use crate::fault::CompositeFault;
+use crate::mem_disk::MemDisk;
 use crate::mem_file::MemFile;
 use crate::names::Names;
-use crate::{dirs, files};
+use crate::verity::verity;
+use crate::{dirs, disks, files};
+use block_map::{Map, MapFault};
+use composite_spec::Spec;
 use host_traits::{Call, Host, HostError, Raw};
-use mg_base::Memory;
+use mg_base::{Memory, Salt};
 use std::alloc::Global;
 use std::collections::BTreeMap;
 use std::marker::Model;
@@ -40,7 +50,8 @@ impl Model for MemHost {
 impl MemHost {
     /// A host that holds nothing and fails at no listed call.
     pub fn new(alloc: Global) -> MemHost
-        ensures { result ≡ record { disks = []; files = []; dirs = []; count = unused } }
+        ensures held { mem_held result ≡ nothing }
+        ensures count { result.count ≡ unused }
     {
         MemHost {
             disks: BTreeMap::new(alloc),
@@ -51,50 +62,155 @@ impl MemHost {
         }
     }
 
-    /// Lists anew the numbers of the calls that are to fail.
+    /// Lists anew the numbers of the calls that are to fail. It takes no memory.
     pub fn fail_at(&mut self, calls: Vec<u64>)
         ensures { self.new ≡ record self.old { count = record self.old.count { failing = calls.items } } }
     {
         self.tally.fail_at(calls);
     }
 
-    /// Adds a disk, each byte of which may be written.
+    /// Where memory is taken.
+    pub(crate) fn alloc(&self) -> Global {
+        self.alloc
+    }
+
+    /// Is there a disk of this number?
+    pub fn has_disk(&self, disk: u32) -> bool
+        ensures there { result ≡ is_there ((mem_held self.now).disk disk) }
+        ensures absent { OnFalse result ((mem_held self.now).disk disk ≡ None) }
+    {
+        self.disks.contains_key(&disk)
+    }
+
+    /// Is there a file or a directory of this number?
+    pub fn has_number(&self, number: u32) -> bool
+        ensures there { result ≡ (is_there ((mem_held self.now).file number) || is_there ((mem_held self.now).dir number)) }
+        ensures no_file { OnFalse result ((mem_held self.now).file number ≡ None) }
+        ensures no_dir { OnFalse result ((mem_held self.now).dir number ≡ None) }
+    {
+        self.files.contains_key(&number) || self.dirs.contains_key(&number)
+    }
+
+    /// Adds a disk, each byte of which may be written. It needs whole sectors and a new number.
     pub fn add_disk(&mut self, disk: u32, bytes: Vec<u8>) -> Result<(), Memory>
         requires whole { length bytes.items % 512 ≡ 0 }
-        requires number { at self.old.disks disk ≡ None }
-        ensures added { OnOk result (Puts self.old.disks self.new.disks disk bytes.items) }
-        ensures files { self.new.files ≡ self.old.files }
-        ensures dirs { self.new.dirs ≡ self.old.dirs }
+        requires number { (mem_held self.old).disk disk ≡ None }
+        ensures added { OnOk result (mem_held self.new ≡ with_disk (mem_held self.old) disk (plain_disk bytes.items)) }
         ensures count { self.new.count ≡ self.old.count }
         ensures unchanged { OnErr result (self.new ≡ self.old) }
     {
-        disks::add(&mut self.disks, disk, bytes)
+        match disks::add(&mut self.disks, disk, MemDisk::plain(bytes)) {
+            Ok(()) => {}
+            Err(_) => return Err(Memory),
+        }
+        Ok(())
     }
 
-    /// Adds an empty file.
+    /// Adds a composite disk: a description, and one file a component. It needs a description that a
+    /// map can be made of, and a new number. A byte may be written exactly where its component may be
+    /// written and the byte lies within the component's file.
+    pub fn add_composite(
+        &mut self,
+        disk: u32,
+        spec: Spec,
+        files: Vec<Vec<u8>>,
+    ) -> Result<(), CompositeFault>
+        requires spec { IsComposite (composite spec) }
+        requires files { length files.items ≡ length (composite spec).components }
+        requires number { (mem_held self.old).disk disk ≡ None }
+        ensures added { OnOk result (mem_held self.new ≡ with_disk (mem_held self.old) disk (composite_disk (composite spec) (contents files.items))) }
+        ensures alias { RefusesAlias (composite spec) result }
+        ensures count { self.new.count ≡ self.old.count }
+        ensures unchanged { OnErr result (self.new ≡ self.old) }
+    {
+        match Map::new(self.alloc, spec) {
+            Ok(map) => match self.add_map(disk, map, files) {
+                Ok(()) => Ok(()),
+                Err(_) => Err(CompositeFault::Memory),
+            },
+            Err(MapFault::Memory) => Err(CompositeFault::Memory),
+            Err(fault) => Err(CompositeFault::Map(fault)),
+        }
+    }
+
+    /// Adds a composite disk by its map, with one file a component. It needs a new number.
+    pub fn add_map(&mut self, disk: u32, map: Map, files: Vec<Vec<u8>>) -> Result<(), Memory>
+        requires files { length files.items ≡ length map.components }
+        requires number { (mem_held self.old).disk disk ≡ None }
+        ensures added { OnOk result (mem_held self.new ≡ with_disk (mem_held self.old) disk (composite_disk map (contents files.items))) }
+        ensures count { self.new.count ≡ self.old.count }
+        ensures unchanged { OnErr result (self.new ≡ self.old) }
+    {
+        match disks::add(&mut self.disks, disk, MemDisk::composite(map, files)) {
+            Ok(()) => {}
+            Err(_) => return Err(Memory),
+        }
+        Ok(())
+    }
+
+    /// Adds a file of these bytes, at most 2^32, with the pages of its hash tree and its descriptor.
+    /// It needs a new number.
+    pub fn add_verity(&mut self, file: u32, bytes: Vec<u8>, salt: Salt) -> Result<(), Memory>
+        requires most { length bytes.items ≤ 2 ^ 32 }
+        requires file { (mem_held self.old).file file ≡ None }
+        requires dir { (mem_held self.old).dir file ≡ None }
+        ensures added { OnOk result (mem_held self.new ≡ with_file (mem_held self.old) file (verity_file bytes.items salt)) }
+        ensures count { self.new.count ≡ self.old.count }
+        ensures unchanged { OnErr result (self.new ≡ self.old) }
+    {
+        let held = match verity(self.alloc, &bytes, salt) {
+            Ok(held) => held,
+            Err(_) => return Err(Memory),
+        };
+        match files::add(&mut self.files, file, held) {
+            Ok(()) => {}
+            Err(_) => return Err(Memory),
+        }
+        Ok(())
+    }
+
+    /// Adds an empty file, whose descriptor is empty. It needs a new number.
     pub fn add_empty(&mut self, file: u32) -> Result<(), Memory>
-        requires file { at self.old.files file ≡ None }
-        requires dir { at self.old.dirs file ≡ None }
-        ensures added { OnOk result (Puts self.old.files self.new.files file (record { bytes = []; descriptor = []; pages = [] })) }
-        ensures disks { self.new.disks ≡ self.old.disks }
-        ensures dirs { self.new.dirs ≡ self.old.dirs }
+        requires file { (mem_held self.old).file file ≡ None }
+        requires dir { (mem_held self.old).dir file ≡ None }
+        ensures added { OnOk result (mem_held self.new ≡ with_file (mem_held self.old) file empty_file) }
         ensures count { self.new.count ≡ self.old.count }
         ensures unchanged { OnErr result (self.new ≡ self.old) }
     {
-        files::add_empty(self.alloc, &mut self.files, file)
+        match files::add(&mut self.files, file, MemFile::new(self.alloc)) {
+            Ok(()) => {}
+            Err(_) => return Err(Memory),
+        }
+        Ok(())
     }
 
-    /// Adds an empty directory.
+    /// Adds an empty directory. It needs a new number.
     pub fn add_dir(&mut self, dir: u32) -> Result<(), Memory>
-        requires file { at self.old.files dir ≡ None }
-        requires dir { at self.old.dirs dir ≡ None }
-        ensures added { OnOk result (Puts self.old.dirs self.new.dirs dir []) }
-        ensures disks { self.new.disks ≡ self.old.disks }
-        ensures files { self.new.files ≡ self.old.files }
+        requires file { (mem_held self.old).file dir ≡ None }
+        requires dir { (mem_held self.old).dir dir ≡ None }
+        ensures added { OnOk result (mem_held self.new ≡ with_dir (mem_held self.old) dir (λ name. false)) }
         ensures count { self.new.count ≡ self.old.count }
         ensures unchanged { OnErr result (self.new ≡ self.old) }
     {
-        dirs::add(self.alloc, &mut self.dirs, dir)
+        match dirs::add(self.alloc, &mut self.dirs, dir) {
+            Ok(()) => {}
+            Err(_) => return Err(Memory),
+        }
+        Ok(())
+    }
+
+    /// The bytes of a disk: None exactly where there is no disk of this number.
+    pub fn disk_bytes(&self, disk: u32) -> Result<Option<Vec<u8>>, Memory>
+        ensures { IfOk result (λ bytes. option_map (λ v. v.items) bytes ≡ option_map (λ d. d.bytes) ((mem_held self.now).disk disk)) }
+    {
+        disks::bytes(self.alloc, &self.disks, disk)
+    }
+
+    /// The bytes of a file: None exactly where there is no file of this number.
+    pub fn file_bytes(&self, file: u32) -> Result<Option<Vec<u8>>, Memory>
+        ensures { IfOk result (λ bytes. option_map (λ v. v.items) bytes ≡ option_map (λ f. f.bytes) ((mem_held self.now).file file)) }
+    {
+        files::bytes(self.alloc, &self.files, file)
     }
 }
 
@@ -135,7 +251,7 @@ impl Host for MemHost {
         if self.tally.begin(call) {
             return Err(HostError::Failed);
         }
-        let answer = disks::read(&self.disks, disk, sector, count, raw);
+        let answer = disks::read(self.alloc, &self.disks, disk, sector, count, raw);
         self.tally.end(call, answer);
         answer
     }
@@ -184,7 +300,7 @@ impl Host for MemHost {
         if self.tally.begin(call) {
             return Err(HostError::Failed);
         }
-        let answer = files::read(&self.files, file, at, want, raw);
+        let answer = files::read(self.alloc, &self.files, file, at, want, raw);
         self.tally.end(call, answer);
         answer
     }
@@ -236,7 +352,7 @@ impl Host for MemHost {
         if self.tally.begin(call) {
             return Err(HostError::Failed);
         }
-        let answer = files::write(&mut self.files, file, at, bytes);
+        let answer = files::write(self.alloc, &mut self.files, file, at, bytes);
         self.tally.end(call, answer);
         answer
     }
@@ -309,7 +425,7 @@ impl Host for MemHost {
         if self.tally.begin(call) {
             return Err(HostError::Failed);
         }
-        let answer = dirs::delete(self.alloc, &mut self.dirs, dir, name);
+        let answer = dirs::delete(&mut self.dirs, dir, name);
         self.tally.end(call, answer);
         answer
     }

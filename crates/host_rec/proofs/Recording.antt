@@ -1,5 +1,5 @@
 -- What a recorder adds.
-use Rattle.std.proofs.Common.{◌≡◌, ℕ, ◌+◌, List, [], ◌∷◌, ◌++◌, length, refl, ap, sym, ◌∙◌, subst, arith, inl, append_assoc, append-nil, Some}
+use Rattle.std.proofs.Common.{◌≡◌, ℕ, ◌+◌, ◌-◌, ◌^◌, ◌≤◌, min, List, [], ◌∷◌, ◌++◌, length, refl, ap, sym, ◌∙◌, subst, arith, inl, append_assoc, append-nil, Option, Some, None}
 use Rattle.std.specs.Prelude.{Result, Ok, Err}
 use Rattle.host_traits.specs.declared.calls.Call.{Call}
 use Rattle.host_traits.specs.declared.calls.Said.{Said}
@@ -8,9 +8,9 @@ use Rattle.host_traits.specs.declared.calls.TapeItem.{TapeItem}
 use Rattle.host_traits.specs.declared.calls.TapeItem.TheVariants.{Failed as ItemFailed}
 use Rattle.host_traits.specs.declared.host.HostError.{HostError}
 use Rattle.host_traits.specs.declared.host.HostError.TheVariants.{Failed, Memory}
-use Rattle.host_traits.specs.Told.{Told, Exchanges, Asked, Answered, Refused, Unheard, heard_size}
+use Rattle.host_traits.specs.Told.{Told, Exchanges, Asked, Answered, Refused, Unheard, Rose, heard_size}
 use Rattle.host_traits.proofs.Talking.{answered, refused, unheard}
-use Rattle.host_rec.specs.Recorded.{Kept, Keeps, and, item_of, exchange, exchanges, heard_by, told_with}
+use Rattle.host_rec.specs.Recorded.{Kept, Keeps, and, item_of, exchange, exchanges, heard_by, failure, failures, failed_by, last_failed_in, told_with}
 
 pub exchanges-push : (cs : List Call) (is : List TapeItem) (call : Call) (item : TapeItem) → length cs ≡ length is → exchanges (cs ++ call ∷ []) (is ++ item ∷ []) ≡ exchanges cs is ++ exchange call item
 exchanges-push [] [] call item even = append-nil (exchange call item)
@@ -27,33 +27,59 @@ exchange-said call SaidDone = refl
 heard_by-and : (k : Kept) (call : Call) (item : TapeItem) → length k.calls ≡ length k.items → heard_by (and k call item) ≡ heard_by k ++ exchange call item
 heard_by-and k call item even = exchanges-push k.calls k.items call item even
 
+pub failures-push : (is : List TapeItem) (item : TapeItem) → failures (is ++ item ∷ []) ≡ failures is + failure item
+failures-push [] item = omega arith
+failures-push (i ∷ is) item = omega (arith, failures-push is item)
+
+last-push : (before : Option Call) (cs : List Call) (is : List TapeItem) (call : Call) (item : TapeItem) → length cs ≡ length is
+    → last_failed_in before (cs ++ call ∷ []) (is ++ item ∷ []) ≡ failed_by (last_failed_in before cs is) call item
+last-push before [] [] call item even = refl
+last-push before [] (i ∷ is) call item even = absurd (omega arith)
+last-push before (c ∷ cs) [] call item even = absurd (omega arith)
+last-push before (c ∷ cs) (i ∷ is) call item even = last-push (failed_by before c i) cs is call item (omega arith)
+
+answers-last : (before : Option Call) (call : Call) (said : Said) → failed_by before call (item_of said) ≡ before
+answers-last before call (SaidNumber n) = refl
+answers-last before call (SaidBytes bytes) = refl
+answers-last before call SaidDone = refl
+
+no-failure : (said : Said) → failure (item_of said) ≡ 0
+no-failure (SaidNumber n) = refl
+no-failure (SaidBytes bytes) = refl
+no-failure SaidDone = refl
+
 one_answer : (call : Call) (given : List ℕ) (said : Said) (a b : Told) (k : Kept) → length k.calls ≡ length k.items → Answered call given said a b
     → Answered call given said (told_with a k) (told_with b (and k call (item_of said)))
 one_answer call given said a b k even d =
-    answered call given said (told_with a k) (told_with b (and k call (item_of said))) d.faults d.last_failed
+    let count : failures (k.items ++ item_of said ∷ []) ≡ failures k.items = omega (arith, failures-push k.items (item_of said), no-failure said) in
+    answered call given said (told_with a k) (told_with b (and k call (item_of said))) (ap (λ n. min n (2 ^ 64 - 1)) count)
+    (last-push None k.calls k.items call (item_of said) even ∙ answers-last (last_failed_in None k.calls k.items) call said)
     (ap Some (heard_by-and k call (item_of said) even ∙ ap (λ z. heard_by k ++ z) (exchange-said call said))) d.held d.talked.records d.talked.place refl d.talked.honest
 
 one_failure : (call : Call) (given : List ℕ) (a b : Told) (k : Kept) → length k.calls ≡ length k.items → Refused call given a b
     → Refused call given (told_with a k) (told_with b (and k call ItemFailed))
 one_failure call given a b k even d =
-    refused call given (told_with a k) (told_with b (and k call ItemFailed)) d.talked.faults d.rose d.last_failed
+    let count = failures-push k.items ItemFailed in
+    let risen : min (min (failures k.items) (2 ^ 64 - 1) + 1) (2 ^ 64 - 1) ≤ min (failures (k.items ++ ItemFailed ∷ [])) (2 ^ 64 - 1) = rw (count) (omega arith) in
+    let later : min (failures k.items) (2 ^ 64 - 1) ≤ min (failures (k.items ++ ItemFailed ∷ [])) (2 ^ 64 - 1) = rw (count) (omega arith) in
+    refused call given (told_with a k) (told_with b (and k call ItemFailed)) later risen (last-push None k.calls k.items call ItemFailed even)
     (ap Some (heard_by-and k call ItemFailed even ∙ append-nil (heard_by k))) d.held d.refuses d.honest d.talked.records d.talked.place refl d.talked.honest
 
 no_memory : (a b : Told) (k : Kept) → Unheard a b → Unheard (told_with a k) (told_with b k)
 no_memory a b k d = record {
   talked = record {
-    faults = d.talked.faults;
+    faults = omega arith;
     heard = ap Some (sym (append-nil (heard_by k)));
     held = d.talked.held;
-    failures = inl (d.faults, d.last_failed);
+    failures = inl (refl, refl);
     records = d.talked.records;
     place = d.talked.place;
     scarce = refl;
     honest = d.talked.honest;
   };
   scarce = refl;
-  faults = d.faults;
-  last_failed = d.last_failed;
+  faults = refl;
+  last_failed = refl;
   held = d.held;
 }
 

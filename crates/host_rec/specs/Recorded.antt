@@ -1,5 +1,5 @@
 -- What a recorder keeps of each call, and what it tells.
-use Rattle.std.specs.Prelude.{◌≡◌, true, List, [], ◌∷◌, ◌++◌, Some, Result, Ok, Err}
+use Rattle.std.specs.Prelude.{◌≡◌, true, ℕ, ◌+◌, ◌-◌, ◌^◌, min, List, [], ◌∷◌, ◌++◌, Option, Some, None, Result, Ok, Err}
 use Rattle.host_traits.specs.declared.calls.Call.{Call}
 use Rattle.host_traits.specs.declared.calls.Said.{Said}
 use Rattle.host_traits.specs.declared.calls.Said.TheVariants.{Number as SaidNumber, Bytes as SaidBytes, Done as SaidDone}
@@ -51,9 +51,38 @@ exchanges (call ∷ calls) (item ∷ items) = exchange call item ++ exchanges ca
 abbrev pub heard_by : Kept → Exchanges
 heard_by k = exchanges k.calls k.items
 
--- what the host behind tells, and besides what was heard
+-- how many of the records are failures
+abbrev pub failure : TapeItem → ℕ
+failure ItemFailed = 1
+failure (Number n) = 0
+failure (Bytes bytes) = 0
+failure Done = 0
+
+abbrev pub failures : List TapeItem → ℕ
+failures [] = 0
+failures (item ∷ items) = failure item + failures items
+
+-- the last call that failed, where one did before these calls
+abbrev pub failed_by : Option Call → Call → TapeItem → Option Call
+failed_by before call ItemFailed = Some call
+failed_by before call (Number n) = before
+failed_by before call (Bytes bytes) = before
+failed_by before call Done = before
+
+abbrev pub last_failed_in : Option Call → List Call → List TapeItem → Option Call
+last_failed_in before [] items = before
+last_failed_in before (call ∷ calls) [] = before
+last_failed_in before (call ∷ calls) (item ∷ items) = last_failed_in (failed_by before call item) calls items
+
+-- what was heard, how often a call failed and which was the last to, all by what was kept; and what the host behind tells of
+-- the rest
 abbrev pub told_with : Told → Kept → Told
-told_with t k = record t { heard = Some (heard_by k); scarce = true }
+told_with t k = record t {
+  faults = min (failures k.items) (2 ^ 64 - 1);
+  last_failed = last_failed_in None k.calls k.items;
+  heard = Some (heard_by k);
+  scarce = true;
+}
 
 -- what one call adds: the record of its answer, or of its failure, and nothing where memory was wanting
 abbrev pub Keeps : {T : Type 0} → Call → (T → Said) → Result T HostError → Kept → Kept → Type 0

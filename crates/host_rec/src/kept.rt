@@ -3,19 +3,22 @@ ghost use Rattle.std.specs.Prelude.{◌≡◌, ◌<◌, ◌≤◌, ◌-◌, ◌+
 ghost use Rattle.host_traits.specs.declared.calls.Said.TheVariants.{Number, Bytes, Done};
 ghost use Rattle.host_traits.specs.declared.host.HostError.TheVariants.{Memory};
 ghost use Rattle.host_traits.specs.Told.{heard_size};
-ghost use Rattle.host_rec.specs.Recorded.{Keeps, kept_of, exchange, exchanges};
+ghost use Rattle.host_rec.specs.Recorded.{Keeps, kept_of, exchange, exchanges, failure, failures};
 
 use host_traits::{Answer, Call, HostError, Raw, TapeItem};
 use std::alloc::Global;
 
-/// Each call with its record, in two lists of one length, and the number of the bytes heard.
+/// Each call with its record, in two lists of one length, the number of the bytes heard, and how many
+/// of the calls failed.
 #[derive(Drop)]
 pub(crate) struct Records {
     pub(crate) calls: Vec<Call>,
     pub(crate) items: Vec<TapeItem>,
     pub(crate) size: u64,
+    pub(crate) faults: u64,
     ghost paired: { length calls.items ≡ length items.items },
     ghost sized: { size ≡ min (heard_size (exchanges calls.items items.items)) (2 ^ 64 - 1) },
+    ghost counted: { faults ≡ min (failures items.items) (2 ^ 64 - 1) },
 }
 
 impl Records {
@@ -27,6 +30,7 @@ impl Records {
             calls: Vec::new(alloc),
             items: Vec::new(alloc),
             size: 0,
+            faults: 0,
         }
     }
 
@@ -46,16 +50,18 @@ impl Records {
         Ok(())
     }
 
-    // Keeps a call and its record, for which there is room.
-    fn keep(&mut self, call: Call, item: TapeItem, size: usize)
+    // Keeps a call and its record, for which there is room: so many bytes were heard, and so many calls failed.
+    fn keep(&mut self, call: Call, item: TapeItem, size: usize, faults: u64)
         requires room { (length self.old.calls.items < vec_capacity self.old.calls) × (length self.old.items.items < vec_capacity self.old.items) }
         requires size { size ≡ heard_size (exchange call item) }
+        requires faults { faults ≡ failure item }
         ensures calls { self.new.calls.items ≡ self.old.calls.items ++ call ∷ [] }
         ensures items { self.new.items.items ≡ self.old.items.items ++ item ∷ [] }
     {
         let _ = self.calls.push(call);
         let _ = self.items.push(item);
         self.size = self.size.saturating_add(size as u64);
+        self.faults = self.faults.saturating_add(faults);
     }
 
     // Keeps a call that was done, or failed.
@@ -64,8 +70,8 @@ impl Records {
         ensures { Keeps call (λ _. Done) answer (kept_of self.old.calls.items self.old.items.items) (kept_of self.new.calls.items self.new.items.items) }
     {
         match answer {
-            Ok(()) => self.keep(call, TapeItem::Done, 0),
-            Err(HostError::Failed) => self.keep(call, TapeItem::Failed, 0),
+            Ok(()) => self.keep(call, TapeItem::Done, 0, 0),
+            Err(HostError::Failed) => self.keep(call, TapeItem::Failed, 0, 1),
             Err(HostError::Memory) => {}
         }
     }
@@ -76,8 +82,8 @@ impl Records {
         ensures { Keeps call (λ n. Number n) answer (kept_of self.old.calls.items self.old.items.items) (kept_of self.new.calls.items self.new.items.items) }
     {
         match answer {
-            Ok(number) => self.keep(call, TapeItem::Number(number), 0),
-            Err(HostError::Failed) => self.keep(call, TapeItem::Failed, 0),
+            Ok(number) => self.keep(call, TapeItem::Number(number), 0, 0),
+            Err(HostError::Failed) => self.keep(call, TapeItem::Failed, 0, 1),
             Err(HostError::Memory) => {}
         }
     }
@@ -97,8 +103,8 @@ impl Records {
         ensures { Keeps call (λ _. Bytes raw.now) answer (kept_of self.old.calls.items self.old.items.items) (kept_of self.new.calls.items self.new.items.items) }
     {
         match answer {
-            Ok(()) => self.keep(call, TapeItem::Bytes(copied(room, raw)), raw.len()),
-            Err(HostError::Failed) => self.keep(call, TapeItem::Failed, 0),
+            Ok(()) => self.keep(call, TapeItem::Bytes(copied(room, raw)), raw.len(), 0),
+            Err(HostError::Failed) => self.keep(call, TapeItem::Failed, 0, 1),
             Err(HostError::Memory) => {}
         }
     }

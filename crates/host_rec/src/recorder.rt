@@ -4,7 +4,7 @@ ghost use Rattle.host_traits.specs.declared.calls.Call.TheVariants.{BlockSize, B
 ghost use Rattle.host_traits.specs.declared.calls.Said.TheVariants.{Number, Bytes, Done};
 ghost use Rattle.host_traits.specs.Told.{Asked, Fills, Told, IsHeardSize};
 ghost use Rattle.host_tape.specs.Tape.{tape_bytes, IsTape};
-ghost use Rattle.host_rec.specs.Recorded.{Keeps, nothing, told_with};
+ghost use Rattle.host_rec.specs.Recorded.{Keeps, failures, nothing, told_with};
 
 use crate::kept::Records;
 use host_tape::write_tape;
@@ -15,7 +15,8 @@ use std::marker::Model;
 
 /// A host that passes each call on to another, and keeps each with its answer, failed ones among
 /// them. It takes room for an answer before it passes the call on, and answers `Memory` where that
-/// is refused. Contracts see the host behind it, the calls, and beside each its record.
+/// is refused. It counts the calls that failed since it was made. Contracts see the host behind it,
+/// the calls, and beside each its record.
 #[derive(Drop)]
 pub struct Recorder<H> {
     host: H,
@@ -56,6 +57,7 @@ impl<H: Host> Recorder<H> {
         ensures bytes { IfOk result (λ bytes. bytes.items ≡ tape_bytes self.now.kept.items) }
         // So `read_tape` reads these records again.
         ensures again { IfOk result (λ bytes. IsTape bytes.items self.now.kept.items) }
+        ensures each { length self.now.kept.calls ≡ length self.now.kept.items }
     {
         let mut out = Vec::new(self.alloc);
         write_tape(&self.records.items, &mut out)?;
@@ -266,9 +268,9 @@ impl<H: Host> Host for Recorder<H> {
     }
 
     fn faults(&self) -> u64
-        ensures { result ≡ (H.told self.now.host).faults }
+        ensures { result ≡ min (failures self.now.kept.items) (2 ^ 64 - 1) }
     {
-        self.host.faults()
+        self.records.faults
     }
 
     fn heard_bytes(&self) -> u64

@@ -1,19 +1,13 @@
-use Rattle.std.proofs.Common.{cond, ◌≡◌, ℕ, ◌+◌, ◌-◌, ◌*◌, ◌/◌, ◌<◌, ◌≤◌, List, [], ◌∷◌, length, take, drop, arith, refl, ap, sym, ◌∙◌, rules, Some, None, true, false, Option}
-use Rattle.std.specs.Prelude.{nat_eq, nat_le, IsSome}
-use Rattle.std.specs.Ordering.{nat_cmp}
-use Rattle.std.specs.BTreeMap.{is_at}
+use Rattle.std.proofs.Common.{◌≡◌, [], length, take, arith, refl, sym, Some, None}
 use Rattle.std.proofs.lemmas.List.{take_all}
-use Rattle.std.proofs.lemmas.Map.Steps.{set_value_same}
-use Rattle.std.proofs.lemmas.Grind.{common_steps}
-use Rattle.host_traits.specs.Held.{over, resized, tree_with}
-use Rattle.host_mem.specs.Mem.{at, covers, held_of, file_of, has_name, names_have, find_in, is_place, or_zeros}
+use Rattle.host_mem.specs.Mem.{at, page_in}
 use Rattle.host_mem.proofs.Changes.{no_file, reads_tree}
 use Rattle.host_mem.proofs.files.read_tree.Goals as goal
 
 pub returns-in-Some-clause-does : goal.returns-in-Some-clause-does
 returns-in-Some-clause-does c = λ disks dirs.
     let there : at c.args.files.now.entries c.args.file ≡ Some c.in-Some.held.now = sym c.in-Some.ensures.value in
-    let page = or_zeros (find_in is_place c.in-Some.held.now.pages (c.args.level, c.args.index)) in
+    let page = page_in c.in-Some.held.now.pages c.args.level c.args.index in
     let len : length page ≡ 4096 = rw c.read_tree.ensures.value at c.read_tree.ensures.len in
     let whole : take 4096 page ≡ page = take_all 4096 page (omega (arith, len)) in
     rw (c.read_tree.ensures.value, ← whole) (reads_tree disks c.args.files.now.entries dirs c.args.file c.args.level c.args.index c.in-Some.held.now there)

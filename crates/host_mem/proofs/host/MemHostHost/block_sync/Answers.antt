@@ -1,4 +1,3 @@
-use Rattle.std.proofs.Common.{◌≡◌, sym}
 use Rattle.host_mem.proofs.Serving.{listed, done, fails_done}
 use Rattle.host_mem.proofs.host.MemHostHost.block_sync.Goals as goal
 

@@ -1,13 +1,9 @@
-use Rattle.std.proofs.Common.{cond, ◌≡◌, ℕ, ◌+◌, ◌-◌, ◌*◌, ◌/◌, ◌<◌, ◌≤◌, List, [], ◌∷◌, length, take, drop, arith, refl, ap, sym, ◌∙◌, rules, Some, None, true, false, Option}
-use Rattle.std.specs.Prelude.{nat_eq, nat_le, IsSome}
-use Rattle.std.specs.Ordering.{nat_cmp}
-use Rattle.std.specs.BTreeMap.{is_at}
-use Rattle.std.proofs.lemmas.Map.Steps.{set_value_same}
-use Rattle.std.proofs.lemmas.Grind.{common_steps}
-use Rattle.host_traits.specs.Held.{over, resized, tree_with}
-use Rattle.host_mem.specs.Mem.{at, covers, held_of, file_of, has_name, names_have, find_in, is_place, or_zeros}
-use Rattle.host_mem.proofs.Puts.{take_min}
+use Rattle.std.proofs.Common.{◌≡◌, ◌∙◌, ℕ, min, take, length, ap, arith}
+use Rattle.std.proofs.lemmas.List.{take_min}
 use Rattle.host_mem.proofs.mem_file.MemFile.read_descriptor.Goals as goal
 
 pub returns : goal.returns
-returns c = let k = take_min c.self.inside.descriptor.items 256 in search rules
+returns c =
+    let bytes = c.self.inside.descriptor.items in
+    let to : c.min-to.result ≡ min 256 (length bytes) = omega arith in
+    c.put.ensures ∙ ap (take c.min-to.result) c.deref.ensures.value ∙ ap (λ (n : ℕ). take n bytes) to ∙ take_min 256 bytes ∙ ap (λ f. take 256 f.descriptor) c.self.view_is
