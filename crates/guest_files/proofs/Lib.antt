@@ -1,0 +1,5 @@
+mod Loading
+mod Cuts
+mod Refusals
+mod Stocks
+mod Stores
