@@ -1,0 +1,6 @@
+pub mod Finds
+pub mod Makes
+pub mod Runs
+pub mod Prefixes
+pub mod Wordings
+pub mod Plans

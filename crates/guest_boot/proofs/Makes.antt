@@ -1,0 +1,147 @@
+-- What the lines make.
+use Rattle.std.proofs.Common.{◌≡◌, ℕ, ◌*◌, ◌≤◌, ◌∙◌, zero, suc, List, [], ◌∷◌, ◌++◌, Option, Some, None, Bor, Result, Ok, Err, refl, ap, sym, subst, inl, inr, arith}
+use Rattle.std.specs.Prelude.{MatchOption, option_copied}
+use Rattle.mg_base.specs.declared.values.Span.{Span}
+use Rattle.host_traits.specs.declared.calls.Call.{Call}
+use Rattle.host_traits.specs.declared.calls.Said.TheVariants.{Bytes}
+use Rattle.host_traits.specs.Told.{Told, Exchanges}
+use Rattle.host_traits.specs.Did.{Did, Trace, trace_of}
+use Rattle.host_traits.proofs.Doing.{did_none, did_so, did_then, failed_later}
+use Rattle.apk_verity.specs.declared.ApkFault.{ApkFault}
+use Rattle.apk_verity.specs.declared.ApkFault.TheVariants as apks
+use Rattle.apk_verity.specs.Opening.{Opening, opening, idsig_call, IsIdsigCall, IsOpened, OpenOutcome, opened}
+use Rattle.guest_plan.specs.declared.plan.How.{How}
+use Rattle.guest_plan.specs.declared.plan.PlanLine.{PlanLine}
+use Rattle.guest_plan.specs.declared.plan.PlanLine.TheVariants as line
+use Rattle.mg_base.specs.declared.values.Digest.{Digest}
+use Rattle.ro_file.specs.Opening.{IsDescriptorCall}
+use Rattle.guest_boot.specs.declared.faults.BootCause.{BootCause}
+use Rattle.guest_boot.specs.declared.faults.BootCause.TheVariants.{Gpt, NoPart, Apk, File, Failed, Short, Memory}
+use Rattle.guest_boot.specs.Finding.{TableOn, IsTableCall, FindsParts, PartsFail, PartsOutcome}
+use Rattle.sha_tree.specs.declared.measure.Measure.{Measure}
+use Rattle.sha_tree.specs.Tree.{block_count}
+use Rattle.guest_plan.specs.Spelling.{IsDevice}
+use Rattle.verity_path.specs.declared.device.Device.{Device}
+use Rattle.guest_boot.specs.Booting.{IsItem, AreItems, device_on, Booted, measure_in, IsForApk, ApkBoots, ApkFails, ApkIsRefused, apk_cause, BlobOutcome, FileOutcome, LineOutcome, IsForLine, most_of_line, ApkOutcome}
+
+fits : (m : ℕ) → block_count (4096 * m) ≡ m
+fits m = omega arith
+
+pub device_is_item : (file : ℕ) (m : Measure) → IsDevice m → IsItem (device_on file m)
+device_is_item file m d = record { least = d.low; most = omega (arith, d.high); suits = fits m.blocks }
+
+pub items_push : (items : List Device) (d : Device) → AreItems items → IsItem d → AreItems (items ++ d ∷ [])
+items_push [] d all one zero it at = let same : d ≡ it = cc in subst IsItem same one
+items_push [] d all one (suc k) it at = absurd cc
+items_push (x ∷ items) d all one zero it at = all 0 it at
+items_push (x ∷ items) d all one (suc k) it at = items_push items d (λ j y e. all (suc j) y e) one k it at
+
+-- ---- an APK device
+
+-- a measure that is lent is the one that is there
+pub copied_is : (r : Option (Bor Measure)) (x : Option Measure) → MatchOption r (x ≡ None) (λ m. x ≡ Some m.now) → option_copied r ≡ x
+copied_is None x is = sym is
+copied_is (Some m) x is = sym is
+
+module _ (o : Opening) (a b c : Told) (y : Exchanges) (le : a.faults ≤ b.faults) where
+  opened_later : (r : Result Device ApkFault) → IsOpened o r (trace_of y b c) → IsOpened o r (trace_of y a c)
+  opened_later r i = record { bytes = i.bytes; own = i.own; few = i.few; is = i.is }
+
+  pub open_later : (f : ApkFault) → OpenOutcome o (Err f) (trace_of y b c) → OpenOutcome o (Err f) (trace_of y a c)
+  open_later (apks.Failed faults) q = (q.0, failed_later (IsIdsigCall o) a b c [] y faults le q.1)
+  open_later (apks.Short asked got) q = (opened_later _ q.0, record { call = q.1.call; bytes = q.1.bytes; own = q.1.own; asks = q.1.asks; got_is = q.1.got_is; short = q.1.short })
+  open_later (apks.Idsig fault) q = opened_later _ q
+  open_later apks.SaltMismatch q = opened_later _ q
+  open_later (apks.RootMismatch expected found) q = opened_later _ q
+  open_later (apks.TooFewBlocks blocks) q = opened_later _ q
+  open_later (apks.TooManyBlocks blocks) q = opened_later _ q
+  open_later (apks.SpanShort blocks sectors) q = opened_later _ q
+  open_later apks.Memory q = q
+
+module _ (s : Booted) (disk : ℕ) (apk idsig : List ℕ) (how : How) where
+  no_parts : (why : BootCause) (t : Trace) → PartsFail s.tables disk apk idsig why t → ApkFails s disk apk idsig how why t
+  no_parts (Gpt f) t h = h
+  no_parts (NoPart name) t h = h
+  no_parts (Apk f) t h = absurd h.1
+  no_parts (File f) t h = h
+  no_parts (Failed faults) t h = h
+  no_parts (Short asked got) t h = h
+  no_parts Memory t h = h
+
+  pub apk_no_parts : (a b : Told) (why : BootCause) (tables : List TableOn) (new : Booted) → Did (IsTableCall disk) 2 a b (PartsOutcome s.tables disk apk idsig tables (Err why))
+      → Did (IsForApk disk) 3 a b (ApkOutcome s disk apk idsig how new (Err why))
+  apk_no_parts a b why tables new d = did_so _ _ 2 3 a b _ _ d (λ call is. inl is) (omega arith) (no_parts why)
+
+  module _ (a b c : Told) (tables : List TableOn) (parts : Span × Span) (o : Opening) (o_is : o ≡ opening disk parts.0 parts.1 (measure_in how))
+      (d : Did (IsTableCall disk) 2 a b (PartsOutcome s.tables disk apk idsig tables (Ok parts))) where
+    for_idsig : (call : Call) → IsIdsigCall o call → IsForApk disk call
+    for_idsig call is = inr (parts.1, is.call_is ∙ ap idsig_call o_is)
+
+    both : (P R : Trace → Type 0) → Did (IsIdsigCall o) 1 b c P
+        → ((x y : Exchanges) → a.faults ≤ b.faults → FindsParts s.tables disk apk idsig x tables parts → P (trace_of y b c) → R (trace_of (x ++ y) a c))
+        → Did (IsForApk disk) 3 a c R
+    both P R e f = did_then (IsForApk disk) 2 1 a b c _ P R (did_so _ _ 2 2 a b _ _ d (λ call is. inl is) (omega arith) (λ t p. p)) (did_so _ _ 1 1 b c _ _ e for_idsig (omega arith) (λ t p. p)) f
+
+    pub apk_memory : (new : Booted) (P : Trace → Type 0) → Did (IsIdsigCall o) 1 b c P → Did (IsForApk disk) 3 a c (ApkOutcome s disk apk idsig how new (Err Memory))
+    apk_memory new P e = both P _ e (λ x y le p q. tt)
+
+    refused : (f : ApkFault) (x y : Exchanges) → a.faults ≤ b.faults → FindsParts s.tables disk apk idsig x tables parts → OpenOutcome o (Err f) (trace_of y b c) → ApkIsRefused s disk apk idsig how f (trace_of (x ++ y) a c)
+    refused f x y le p q = record { first = x; rest = y; cut = refl; tables = tables; parts = parts; found = p; outcome = subst (λ (z : Opening). OpenOutcome z (Err f) (trace_of y a c)) o_is (open_later o a b c y le f q) }
+
+    named : (f : ApkFault) (t : Trace) → ApkIsRefused s disk apk idsig how f t → ApkFails s disk apk idsig how (apk_cause f) t
+    named (apks.Failed faults) t h = h
+    named (apks.Short asked got) t h = h
+    named (apks.Idsig fault) t h = h
+    named apks.SaltMismatch t h = h
+    named (apks.RootMismatch expected found) t h = h
+    named (apks.TooFewBlocks blocks) t h = h
+    named (apks.TooManyBlocks blocks) t h = h
+    named (apks.SpanShort blocks sectors) t h = h
+    named apks.Memory t h = tt
+
+    pub apk_refused : (new : Booted) (f : ApkFault) → Did (IsIdsigCall o) 1 b c (OpenOutcome o (Err f)) → Did (IsForApk disk) 3 a c (ApkOutcome s disk apk idsig how new (Err (apk_cause f)))
+    apk_refused new f e = both _ _ e (λ x y le p q. named f _ (refused f x y le p q))
+
+    boots : (new : Booted) (device : Device) (x y : Exchanges) → new ≡ record { tables = tables; items = s.items ++ device ∷ []; files = s.files } → FindsParts s.tables disk apk idsig x tables parts
+        → IsOpened o (Ok device) (trace_of y b c) → ApkBoots s disk apk idsig how (x ++ y) new
+    boots new device x y e p q = record {
+      first = x;
+      tables = tables;
+      parts = parts;
+      found = p;
+      bytes = q.bytes;
+      cut = ap (λ (z : Exchanges). x ++ z) (q.own ∙ ap (λ (z : Opening). (idsig_call z, Bytes q.bytes) ∷ []) o_is);
+      device = device;
+      is = ap (λ (z : Opening). opened z q.bytes) (sym o_is) ∙ sym q.is;
+      new_is = e;
+    }
+
+    pub apk_boots : (new : Booted) (device : Device) → new ≡ record { tables = tables; items = s.items ++ device ∷ []; files = s.files } → Did (IsIdsigCall o) 1 b c (OpenOutcome o (Ok device))
+        → Did (IsForApk disk) 3 a c (ApkOutcome s disk apk idsig how new (Ok tt))
+    apk_boots new device e d2 = both _ _ d2 (λ x y le p q. boots new device x y e p q)
+
+-- ---- lines
+
+abbrev DidLine : Booted → Booted → Told → Told → Result (Unit {0}) BootCause → PlanLine → Type 0
+DidLine s new a b r l = Did (IsForLine l) (most_of_line l) a b (LineOutcome s l new r)
+
+pub did_blob : (s new : Booted) (file : ℕ) (m : Measure) (a : Told) (r : Result (Unit {0}) BootCause) → BlobOutcome s file m new r → DidLine s new a a r (line.Blob file m)
+did_blob s new file m a (Ok u) e = did_none _ 0 a _ (refl, e)
+did_blob s new file m a (Err why) e = did_none _ 0 a _ e
+
+apk_line : (s new : Booted) (disk : ℕ) (apk idsig : List ℕ) (how : How) (r : Result (Unit {0}) BootCause) (t : Trace) → ApkOutcome s disk apk idsig how new r t → LineOutcome s (line.Apk disk apk idsig how) new r t
+apk_line s new disk apk idsig how (Ok u) t h = h
+apk_line s new disk apk idsig how (Err why) t h = h
+
+pub did_apk : (s new : Booted) (disk : ℕ) (apk idsig : List ℕ) (how : How) (a b : Told) (r : Result (Unit {0}) BootCause) → Did (IsForApk disk) 3 a b (ApkOutcome s disk apk idsig how new r) → DidLine s new a b r (line.Apk disk apk idsig how)
+did_apk s new disk apk idsig how a b r d = did_so _ _ 3 3 a b _ _ d (λ call x. x) (omega arith) (apk_line s new disk apk idsig how r)
+
+file_line : (s new : Booted) (name : List ℕ) (file : ℕ) (digest : Digest) (r : Result (Unit {0}) BootCause) (t : Trace) → FileOutcome s file digest new r t → LineOutcome s (line.File name file digest) new r t
+file_line s new name file digest (Ok u) t h = h
+file_line s new name file digest (Err why) t h = h
+
+pub did_file : (s new : Booted) (name : List ℕ) (file : ℕ) (digest : Digest) (a b : Told) (r : Result (Unit {0}) BootCause) → Did (IsDescriptorCall file) 1 a b (FileOutcome s file digest new r) → DidLine s new a b r (line.File name file digest)
+did_file s new name file digest a b r d = did_so _ _ 1 1 a b _ _ d (λ call x. x) (omega arith) (file_line s new name file digest r)
+
+pub did_line : (s new : Booted) (a b : Told) (r : Result (Unit {0}) BootCause) (l k : PlanLine) → l ≡ k → DidLine s new a b r k → Did (IsForLine l) (most_of_line l) a b (LineOutcome s l new r)
+did_line s new a b r l k is d = subst (DidLine s new a b r) (sym is) d

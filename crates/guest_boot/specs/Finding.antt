@@ -1,0 +1,233 @@
+-- The table of a disk, as it is read at boot, and the two parts of an APK device in it.
+use Rattle.std.specs.Prelude.{◌≡◌, ◌⊎◌, ℕ, ◌+◌, ◌-◌, ◌^◌, ◌<◌, ◌≤◌, true, false, List, [], ◌∷◌, ◌++◌, length, Option, Some, None, Result, Ok, Err, ◌==◌, if◌then◌else◌, string_bytes}
+use Rattle.std.specs.Global.{Vec}
+use Rattle.mg_base.specs.declared.values.Span.{Span}
+use Rattle.host_traits.specs.declared.calls.Call.{Call}
+use Rattle.host_traits.specs.declared.calls.Call.TheVariants.{BlockSize, BlockRead}
+use Rattle.host_traits.specs.declared.calls.Said.TheVariants.{Number, Bytes}
+use Rattle.host_traits.specs.Told.{Exchanges}
+use Rattle.host_traits.specs.Did.{Trace, IsFailed}
+use Rattle.gpt.specs.declared.faults.GptFault.{GptFault}
+use Rattle.gpt.specs.declared.faults.GptFault.TheVariants as broken
+use Rattle.gpt.specs.declared.values.Table.{Table}
+use Rattle.gpt.specs.Rules.{is_sized, gpt_of}
+use Rattle.gpt.specs.Names.{part}
+use Rattle.guest_boot.specs.declared.faults.BootCause.{BootCause}
+use Rattle.guest_boot.specs.declared.faults.BootCause.TheVariants.{Gpt, NoPart, Failed, Short, Memory}
+
+-- ---- the three calls of a table: the number of sectors, the first 40 and the last 40
+
+abbrev pub size_call : ℕ → Call
+size_call disk = BlockSize disk
+
+abbrev pub head_call : ℕ → Call
+head_call disk = BlockRead disk 0 40
+
+abbrev pub tail_call : ℕ → ℕ → Call
+tail_call disk sectors = BlockRead disk (sectors - 40) 40
+
+abbrev pub IsCall : Call → Call → Type 0
+IsCall this call = call ≡ this
+
+-- a call for the table of a disk
+abbrev pub IsTableCall : ℕ → Call → Type 0
+IsTableCall disk call = IsCall (size_call disk) call ⊎ IsCall (head_call disk) call ⊎ ((sectors : ℕ) × (is_sized sectors ≡ true) × IsCall (tail_call disk sectors) call)
+
+-- the number of sectors was heard, and a disk with a table may have so many
+pub record HeardSize (disk : ℕ) (own : Exchanges) : Type 0 where
+  pub sectors : ℕ
+  pub own_is : own ≡ (size_call disk, Number sectors) ∷ []
+  pub sized : is_sized sectors ≡ true
+
+-- then the first 40 sectors
+pub record HeardHead (disk : ℕ) (own : Exchanges) : Type 0 where
+  pub sectors : ℕ
+  pub head : List ℕ
+  pub own_is : own ≡ (size_call disk, Number sectors) ∷ (head_call disk, Bytes head) ∷ []
+  pub sized : is_sized sectors ≡ true
+  pub head_len : length head ≡ 20480
+
+-- then the last 40
+pub record HeardEnds (disk : ℕ) (own : Exchanges) : Type 0 where
+  pub sectors : ℕ
+  pub head : List ℕ
+  pub tail : List ℕ
+  pub own_is : own ≡ (size_call disk, Number sectors) ∷ (head_call disk, Bytes head) ∷ (tail_call disk sectors, Bytes tail) ∷ []
+  pub sized : is_sized sectors ≡ true
+  pub head_len : length head ≡ 20480
+  pub tail_len : length tail ≡ 20480
+
+-- these exchanges are those of the table
+pub record ReadsTable (disk : ℕ) (own : Exchanges) (t : Table) : Type 0 where
+  pub ends : HeardEnds disk own
+  pub is : gpt_of ends.head ends.tail ends.sectors ≡ Ok t
+
+-- ---- why a disk's table was not read
+
+-- the number of sectors is none that a disk with a table may have, and nothing else was asked
+pub record HeardNoSize (disk : ℕ) (own : Exchanges) (why : GptFault) : Type 0 where
+  pub sectors : ℕ
+  pub own_is : own ≡ (size_call disk, Number sectors) ∷ []
+  pub sized : is_sized sectors ≡ false
+  pub why_is : why ≡ broken.Size sectors
+
+-- the two ends break this rule first
+pub record BreaksTable (disk : ℕ) (own : Exchanges) (why : GptFault) : Type 0 where
+  pub ends : HeardEnds disk own
+  pub is : gpt_of ends.head ends.tail ends.sectors ≡ Err why
+
+abbrev pub TableRefused : ℕ → Exchanges → GptFault → Type 0
+TableRefused disk own broken.Memory = ⊥
+TableRefused disk own why = HeardNoSize disk own why ⊎ BreaksTable disk own why
+
+-- the first 40 sectors came short, and nothing was asked after them
+pub record HeadIsShort (disk : ℕ) (own : Exchanges) (got : ℕ) : Type 0 where
+  pub sectors : ℕ
+  pub head : List ℕ
+  pub own_is : own ≡ (size_call disk, Number sectors) ∷ (head_call disk, Bytes head) ∷ []
+  pub sized : is_sized sectors ≡ true
+  pub got_is : got ≡ length head
+  pub short : got < 20480
+
+-- the last 40 came short
+pub record TailIsShort (disk : ℕ) (own : Exchanges) (got : ℕ) : Type 0 where
+  pub sectors : ℕ
+  pub head : List ℕ
+  pub tail : List ℕ
+  pub own_is : own ≡ (size_call disk, Number sectors) ∷ (head_call disk, Bytes head) ∷ (tail_call disk sectors, Bytes tail) ∷ []
+  pub sized : is_sized sectors ≡ true
+  pub head_len : length head ≡ 20480
+  pub got_is : got ≡ length tail
+  pub short : got < 20480
+
+abbrev pub EndIsShort : ℕ → Exchanges → ℕ → ℕ → Type 0
+EndIsShort disk own asked got = (asked ≡ 20480) × (HeadIsShort disk own got ⊎ TailIsShort disk own got)
+
+-- the call that comes next, after these exchanges
+abbrev pub TableNext : ℕ → Exchanges → Call → Type 0
+TableNext disk own call =
+    ((own ≡ []) × IsCall (size_call disk) call) ⊎ (HeardSize disk own × IsCall (head_call disk) call) ⊎ ((h : HeardHead disk own) × IsCall (tail_call disk h.sectors) call)
+
+abbrev pub TableFails : ℕ → BootCause → Trace → Type 0
+TableFails disk (Gpt why) t = TableRefused disk t.own why
+TableFails disk (Short asked got) t = EndIsShort disk t.own asked got
+TableFails disk (Failed faults) t = IsFailed (TableNext disk t.own) t faults
+TableFails disk Memory t = Unit {0}
+TableFails disk other t = ⊥
+
+-- a disk, and its table
+pub record TableOn : Type 0 where
+  pub disk : ℕ
+  pub table : Table
+
+-- what came of reading a disk's table
+abbrev pub TableOutcome : ℕ → Result TableOn BootCause → Trace → Type 0
+TableOutcome disk (Ok known) t = (known.disk ≡ disk) × ReadsTable disk t.own known.table
+TableOutcome disk (Err why) t = TableFails disk why t
+
+-- ---- the tables that were read, and the parts in them
+
+-- the table of a disk among them
+unfoldable pub table_on : ℕ → List TableOn → Option Table
+table_on disk [] = None
+table_on disk (known ∷ tables) = if known.disk == disk then Some known.table else table_on disk tables
+
+-- a disk's table was read before, or it was read now
+abbrev pub HasTable : Option Table → ℕ → Exchanges → Table → Type 0
+HasTable (Some known) disk own table = (own ≡ []) × (table ≡ known)
+HasTable None disk own table = ReadsTable disk own table
+
+-- the tables that were read, with it
+abbrev pub with_table : Option Table → List TableOn → ℕ → Table → List TableOn
+with_table (Some known) tables disk table = tables
+with_table None tables disk table = tables ++ record { disk = disk; table = table } ∷ []
+
+abbrev pub parts_of : List ℕ → List ℕ → Option Span → Option Span → Result (Span × Span) (List ℕ)
+parts_of apk idsig None found = Err apk
+parts_of apk idsig (Some a) None = Err idsig
+parts_of apk idsig (Some a) (Some i) = Ok (a, i)
+
+-- the parts of these two names, or the first name that no part has
+abbrev pub parts_in : Table → List ℕ → List ℕ → Result (Span × Span) (List ℕ)
+parts_in table apk idsig = parts_of apk idsig (part apk table.entries) (part idsig table.entries)
+
+-- a table that these exchanges gave, or one that was read before, has both parts
+pub record FindsParts (tables : List TableOn) (disk : ℕ) (apk idsig : List ℕ) (own : Exchanges) (new : List TableOn) (parts : Span × Span) : Type 0 where
+  pub table : Table
+  pub has : HasTable (table_on disk tables) disk own table
+  pub parts_are : parts_in table apk idsig ≡ Ok parts
+  pub new_is : new ≡ with_table (table_on disk tables) tables disk table
+
+-- it lacks one, and this is the first
+pub record LacksPart (tables : List TableOn) (disk : ℕ) (apk idsig : List ℕ) (own : Exchanges) (name : List ℕ) : Type 0 where
+  pub table : Table
+  pub has : HasTable (table_on disk tables) disk own table
+  pub lacks : parts_in table apk idsig ≡ Err name
+
+-- why the parts were not found: the table has no such part, or the disk's table was to be read, and was not
+abbrev pub PartsFail : List TableOn → ℕ → List ℕ → List ℕ → BootCause → Trace → Type 0
+PartsFail tables disk apk idsig (NoPart name) t = LacksPart tables disk apk idsig t.own (string_bytes name)
+PartsFail tables disk apk idsig Memory t = Unit {0}
+PartsFail tables disk apk idsig why t = (table_on disk tables ≡ None) × TableFails disk why t
+
+abbrev pub PartsOutcome : List TableOn → ℕ → List ℕ → List ℕ → List TableOn → Result (Span × Span) BootCause → Trace → Type 0
+PartsOutcome tables disk apk idsig new (Ok parts) t = FindsParts tables disk apk idsig t.own new parts
+PartsOutcome tables disk apk idsig new (Err why) t = PartsFail tables disk apk idsig why t
+
+-- ---- the steps
+
+-- the cause of a table that was not read: want of memory is boot's own
+abbrev pub gpt_cause : GptFault → BootCause
+gpt_cause broken.Memory = Memory
+gpt_cause why = Gpt why
+
+-- what came of asking for the number of sectors
+abbrev pub SizeOutcome : ℕ → Result ℕ BootCause → Trace → Type 0
+SizeOutcome disk (Ok sectors) t = (t.own ≡ (size_call disk, Number sectors) ∷ []) × (is_sized sectors ≡ true)
+SizeOutcome disk (Err (Gpt why)) t = HeardNoSize disk t.own why
+SizeOutcome disk (Err (Failed faults)) t = (t.own ≡ []) × IsFailed (IsCall (size_call disk)) t faults
+SizeOutcome disk (Err Memory) t = Unit {0}
+SizeOutcome disk (Err other) t = ⊥
+
+-- the answer to the one call is this, whole
+abbrev pub IsEnd : Call → List ℕ → Trace → Type 0
+IsEnd call bytes t = (t.own ≡ (call, Bytes bytes) ∷ []) × (length bytes ≡ 20480)
+
+-- it came short
+pub record IsShortEnd (call : Call) (t : Trace) (asked got : ℕ) : Type 0 where
+  pub bytes : List ℕ
+  pub own_is : t.own ≡ (call, Bytes bytes) ∷ []
+  pub asked_is : asked ≡ 20480
+  pub got_is : got ≡ length bytes
+  pub short : got < 20480
+
+abbrev pub EndFails : Call → BootCause → Trace → Type 0
+EndFails call (Short asked got) t = IsShortEnd call t asked got
+EndFails call (Failed faults) t = (t.own ≡ []) × IsFailed (IsCall call) t faults
+EndFails call Memory t = Unit {0}
+EndFails call other t = ⊥
+
+abbrev pub EndOutcome : Call → Result (Vec ℕ) BootCause → Trace → Type 0
+EndOutcome call (Ok v) t = IsEnd call v.items t
+EndOutcome call (Err why) t = EndFails call why t
+
+-- the cause of a part of this name that isn't there
+abbrev pub IsNoPart : List ℕ → BootCause → Type 0
+IsNoPart name (NoPart s) = string_bytes s ≡ name
+IsNoPart name Memory = Unit {0}
+IsNoPart name other = ⊥
+
+-- the parts of these names, or the first that isn't there
+abbrev pub PartsNamed : Table → List ℕ → List ℕ → Result (Span × Span) BootCause → Type 0
+PartsNamed table apk idsig (Ok parts) = parts_in table apk idsig ≡ Ok parts
+PartsNamed table apk idsig (Err (NoPart name)) = parts_in table apk idsig ≡ Err (string_bytes name)
+PartsNamed table apk idsig (Err Memory) = Unit {0}
+PartsNamed table apk idsig (Err other) = ⊥
+
+-- a part has a sector, and ends by 2 ^ 40
+pub record IsSpan (s : Span) : Type 0 where
+  pub some : 1 ≤ s.sectors
+  pub end : s.first + s.sectors ≤ 2 ^ 40
+
+abbrev pub AreSpans : Span × Span → Type 0
+AreSpans parts = IsSpan parts.0 × IsSpan parts.1

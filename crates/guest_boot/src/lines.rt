@@ -1,0 +1,207 @@
+// The lines of a plan, opened in their order.
+ghost use Rattle.std.specs.Prelude.{◌≡◌, ◌≤◌, length, IfOk, IfSome, MatchOption, None, Some};
+ghost use Rattle.host_traits.specs.Did.{Did};
+ghost use Rattle.ro_file.specs.Opening.{IsDescriptorCall};
+ghost use Rattle.guest_plan.specs.Spelling.{IsServed, IsMeasuredBy, IsDevice};
+ghost use Rattle.guest_boot.specs.Booting.{IsBuilt, AreBuilt, AreServed, AreItems, apk_cause, file_cause, measure_in, state_of, IsForLine, most_of_line, IsForLines, most_of, IsForApk, BlobOutcome, ApkOutcome, FileOutcome, LineOutcome, BootOutcome};
+
+use crate::faults::{BootCause, BootFault};
+use crate::tables::{DiskTable, parts_on};
+use apk_verity::{ApkFault, open_apk};
+use guest_plan::{How, PlanLine};
+use host_traits::Host;
+use mg_base::Digest;
+use ro_file::{RoFault, RoFile, open_file};
+use sha_tree::Measure;
+use std::alloc::Global;
+use text_lines::Name;
+use verity_path::{Buffers, Device, Layout};
+
+/// What boot opened.
+#[derive(Drop)]
+pub struct Opened {
+    /// The measured devices, in the order of the `blob` and `apk` lines.
+    pub items: Vec<Device>,
+    /// The read-only files, in the order of the `file` lines.
+    pub files: Vec<RoFile>,
+}
+
+// What was read and opened so far.
+#[derive(Drop)]
+struct Boot {
+    tables: Vec<DiskTable>,
+    items: Vec<Device>,
+    files: Vec<RoFile>,
+}
+
+// The measure that an APK device has to have, if any.
+fn measure_in(how: &How) -> Option<&Measure>
+    requires { IsMeasuredBy how.now }
+    ensures value { MatchOption result (measure_in how.now ≡ None) (λ m. measure_in how.now ≡ Some m.now) }
+    ensures range { IfSome result (λ m. (2 ≤ m.now.blocks) × (m.now.blocks ≤ 1048576)) }
+{
+    match how {
+        How::Fixed(measure) => Some(measure),
+        _ => None,
+    }
+}
+
+// The cause of an APK device that was not opened. Want of memory is boot's own.
+fn apk_cause(fault: ApkFault) -> BootCause
+    ensures { result ≡ apk_cause fault }
+{
+    match fault {
+        ApkFault::Memory => BootCause::Memory,
+        _ => BootCause::Apk(fault),
+    }
+}
+
+// The cause of a file that was not opened.
+fn file_cause(fault: RoFault) -> BootCause
+    ensures { result ≡ file_cause fault }
+{
+    match fault {
+        RoFault::Memory => BootCause::Memory,
+        _ => BootCause::File(fault),
+    }
+}
+
+// An APK device.
+fn boot_apk<H: Host>(
+    alloc: Global,
+    host: &mut H,
+    disk: u32,
+    apk: &Name,
+    idsig: &Name,
+    how: &How,
+    boot: &mut Boot,
+    buf: &mut Buffers,
+) -> Result<(), BootCause>
+    requires how { IsMeasuredBy how.now }
+    requires items { AreItems boot.old.items.items }
+    ensures did { Did (IsForApk disk) 3 (H.told host.old) (H.told host.new) (ApkOutcome (state_of boot.old) disk apk.now idsig.now how.now (state_of boot.new) result) }
+    ensures items { AreItems boot.new.items.items }
+{
+    let (first, second) = match parts_on(alloc, host, disk, apk, idsig, &mut boot.tables, buf) {
+        Ok(parts) => parts,
+        Err(why) => return Err(why),
+    };
+    let device = match open_apk(host, disk, first, second, measure_in(how), buf) {
+        Ok(device) => device,
+        Err(fault) => return Err(apk_cause(fault)),
+    };
+    match boot.items.push(device) {
+        Ok(()) => Ok(()),
+        Err(_) => Err(BootCause::Memory),
+    }
+}
+
+// A read-only file.
+fn boot_file<H: Host>(
+    host: &mut H,
+    file: u32,
+    digest: &Digest,
+    boot: &mut Boot,
+    buf: &mut Buffers,
+) -> Result<(), BootCause>
+    ensures did { Did (IsDescriptorCall file) 1 (H.told host.old) (H.told host.new) (FileOutcome (state_of boot.old) file digest.now (state_of boot.new) result) }
+    ensures items { boot.new.items ≡ boot.old.items }
+{
+    let opened = match open_file(host, file, digest, buf) {
+        Ok(opened) => opened,
+        Err(fault) => return Err(file_cause(fault)),
+    };
+    match boot.files.push(opened) {
+        Ok(()) => Ok(()),
+        Err(_) => Err(BootCause::Memory),
+    }
+}
+
+// A measured device on a file of the host.
+fn boot_blob(file: u32, measure: &Measure, boot: &mut Boot) -> Result<(), BootCause>
+    requires measure { IsDevice measure.now }
+    requires items { AreItems boot.old.items.items }
+    ensures value { BlobOutcome (state_of boot.old) file measure.now (state_of boot.new) result }
+    ensures items { AreItems boot.new.items.items }
+{
+    let device = Device {
+        measure: *measure,
+        layout: Layout::File {
+            file,
+            size: 4096 * measure.blocks,
+        },
+    };
+    match boot.items.push(device) {
+        Ok(()) => Ok(()),
+        Err(_) => Err(BootCause::Memory),
+    }
+}
+
+// One line.
+fn boot_line<H: Host>(
+    alloc: Global,
+    host: &mut H,
+    line: &PlanLine,
+    boot: &mut Boot,
+    buf: &mut Buffers,
+) -> Result<(), BootCause>
+    requires built { IsBuilt line.now }
+    requires served { IsServed line.now }
+    requires items { AreItems boot.old.items.items }
+    ensures did { Did (IsForLine line.now) (most_of_line line.now) (H.told host.old) (H.told host.new) (LineOutcome (state_of boot.old) line.now (state_of boot.new) result) }
+    ensures items { AreItems boot.new.items.items }
+{
+    match line {
+        PlanLine::Blob { file, measure } => boot_blob(*file, measure, boot),
+        PlanLine::Apk {
+            disk,
+            apk,
+            idsig,
+            how,
+        } => boot_apk(alloc, host, *disk, apk, idsig, how, boot, buf),
+        PlanLine::File {
+            name: _,
+            file,
+            digest,
+        } => boot_file(host, *file, digest, boot, buf),
+        _ => unreachable!(),
+    }
+}
+
+/// Opens the lines of a plan in their order, whose numbers in its text are `numbers`. A `blob` line makes a device and calls
+/// nothing. An `apk` line reads its disk's table, unless an earlier line read it, and then opens the APK's part by its idsig's. A
+/// `file` line opens a file by its digest. The first fault ends it.
+pub fn open_lines<H: Host>(
+    alloc: Global,
+    host: &mut H,
+    lines: &[PlanLine],
+    numbers: &[u64],
+    buf: &mut Buffers,
+) -> Result<Opened, BootFault>
+    requires built { AreBuilt lines.now }
+    requires served { AreServed lines.now }
+    requires numbers { length numbers.now ≡ length lines.now }
+    // The calls of the lines in their order, and what came of them.
+    ensures booted { Did (IsForLines lines.now) (most_of lines.now) (H.told host.old) (H.told host.new) (BootOutcome lines.now numbers.now result) }
+    // Each device can be read.
+    ensures items { IfOk result (λ o. AreItems o.items.items) }
+{
+    let mut boot = Boot {
+        tables: Vec::new(alloc),
+        items: Vec::new(alloc),
+        files: Vec::new(alloc),
+    };
+    for index in 0..lines.len() {
+        match boot_line(alloc, host, &lines[index], &mut boot, buf) {
+            Ok(()) => {}
+            Err(why) => {
+                let line = numbers[index];
+                return Err(BootFault { line, why });
+            }
+        }
+    }
+    Ok(Opened {
+        items: boot.items,
+        files: boot.files,
+    })
+}
