@@ -1,7 +1,7 @@
--- From a plan in the grammar to items that can be read.
-use Rattle.std.proofs.Common.{if◌then◌else◌, ◌≡◌, ℕ, zero, suc, ◌+◌, ◌*◌, ◌<◌, List, [], ◌∷◌, ◌++◌, length, get_or, refl, sym, subst, arith, Bool, true, false, Ok, Err, Result}
+-- Lines of a plan that is in the grammar and asks for nothing that isn't served.
+use Rattle.std.proofs.Common.{if◌then◌else◌, ◌≡◌, ℕ, ◌+◌, List, [], ◌∷◌, ◌++◌, length, refl, sym, ◌∙◌, subst, arith, Bool, true, false, ◌||◌, ◌==◌, Option, Some, None, is_some, Ok, Err, Result}
+use Rattle.std.proofs.lemmas.List.{length-append}
 use Rattle.std.specs.List.{AllByRecursion}
-use Rattle.sha_tree.specs.Tree.{block_count}
 use Rattle.text_lines.specs.declared.kinds.PlanKind.{PlanKind}
 use Rattle.text_lines.specs.Fields.{◌>>=◌}
 use Rattle.text_lines.specs.Spelling.{collect}
@@ -11,31 +11,9 @@ use Rattle.guest_plan.specs.declared.plan.Item.{Item}
 use Rattle.guest_plan.specs.declared.plan.Item.TheVariants.{Secret, InstanceSalt, Line}
 use Rattle.guest_plan.specs.Plans.{Known, nothing, add}
 use Rattle.guest_plan.specs.Spelling.{IsPlan, IsServed, IsItem as IsSaid}
-use Rattle.guest_rules.specs.Machine.{AreItems, IsItem}
-use Rattle.guest_cli.specs.Planned.{device_on, items_of}
-use Rattle.guest_cli.specs.Booted.{AreServed}
-
--- ---- items
-
-fits : (m : ℕ) → block_count (4096 * m) ≡ m
-fits m = omega arith
-
-pub are_items : (lines : List PlanLine) → AreServed lines → AreItems (items_of lines)
-are_items [] s k it at = absurd cc
-are_items (line.Blob file m ∷ lines) s zero it at =
-    let same : device_on file m ≡ it = cc in
-    subst IsItem same (record { least = s.0.1.low; most = omega (arith, s.0.1.high); suits = fits m.blocks })
-are_items (line.Blob file m ∷ lines) s (suc k) it at = are_items lines s.1 k it at
-are_items (line.Instance disk part ∷ lines) s k it at = are_items lines s.1 k it at
-are_items (line.Apk disk apk idsig how ∷ lines) s k it at = are_items lines s.1 k it at
-are_items (line.File name file digest ∷ lines) s k it at = are_items lines s.1 k it at
-are_items (line.Write name file ∷ lines) s k it at = are_items lines s.1 k it at
-are_items (line.WriteDir name file ∷ lines) s k it at = are_items lines s.1 k it at
-
-pub served_at : (lines : List PlanLine) (k : ℕ) (l : PlanLine) → AreServed lines → k < length lines → l ≡ get_or lines k l → IsServed l
-served_at [] k l s lt is = absurd (omega (arith, lt))
-served_at (x ∷ lines) zero l s lt is = subst IsServed (sym is) s.0
-served_at (x ∷ lines) (suc k) l s lt is = served_at lines k l s.1 (omega (arith, lt)) is
+use Rattle.guest_plan.specs.declared.plan.How.TheVariants.{Fixed, First, Kept}
+use Rattle.guest_boot.specs.Booting.{IsBuilt, AreBuilt, AreServed}
+use Rattle.guest_cli.specs.Planned.{is_built, other_from, first_unbuilt}
 
 served_push : (lines : List PlanLine) (l : PlanLine) → AreServed lines → IsServed l → AreServed (lines ++ l ∷ [])
 served_push [] l s one = (one, tt)
@@ -67,3 +45,52 @@ collected n k later (item ∷ items) s each e =
 
 pub plan_served : (text : List ℕ) (k : Known) → IsPlan text k → AreServed k.lines
 plan_served text k p = collected 2 nothing k p.items.items tt p.items.each p.items.says
+
+-- ---- a number for each line
+
+lengths_more : (a b : ℕ) → a ≡ b → a + 1 ≡ b + 1
+lengths_more a b e = omega (arith, e)
+
+numbered_by : (k later : Known) (n : ℕ) (item : Item) → length k.numbers ≡ length k.lines → add k n item ≡ Ok later → length later.numbers ≡ length later.lines
+unfolding add
+numbered_by k later n (Secret bytes) s e = subst (λ (z : Known). length z.numbers ≡ length z.lines) (chosen _ _ _ _ e) s
+numbered_by k later n (InstanceSalt bytes) s e = subst (λ (z : Known). length z.numbers ≡ length z.lines) (chosen _ _ _ _ e) s
+numbered_by k later n (Line l) s e =
+    subst (λ (z : Known). length z.numbers ≡ length z.lines) (chosen _ _ _ _ e) (length-append k.numbers (n ∷ []) ∙ (lengths_more _ _ s ∙ sym (length-append k.lines (l ∷ []))))
+
+numbered : (n : ℕ) (k later : Known) (items : List Item) → length k.numbers ≡ length k.lines → collect add n k items ≡ Ok later → length later.numbers ≡ length later.lines
+unfolding collect
+numbered n k later [] s e = let same : k ≡ later = cc in subst (λ (z : Known). length z.numbers ≡ length z.lines) same s
+numbered n k later (item ∷ items) s e =
+    let b = bound (add k n item) _ later e in
+    numbered (n + 1) b.0 later items (numbered_by k b.0 n item s b.1) b.2
+
+pub plan_numbered : (text : List ℕ) (k : Known) → IsPlan text k → length k.numbers ≡ length k.lines
+plan_numbered text k p = numbered 2 nothing k p.items.items refl p.items.says
+
+-- ---- lines that are served
+
+one_built : (l : PlanLine) → is_built l ≡ true → IsBuilt l
+one_built (line.Blob file m) e = tt
+one_built (line.Apk disk apk idsig (Fixed m)) e = tt
+one_built (line.Apk disk apk idsig First) e = tt
+one_built (line.Apk disk apk idsig (Kept id)) e = absurd cc
+one_built (line.File name file digest) e = tt
+one_built (line.Instance disk part) e = absurd cc
+one_built (line.Write name file) e = absurd cc
+one_built (line.WriteDir name file) e = absurd cc
+
+both_true : (a b : Bool) (n : ℕ) (r : Option ℕ) → (if a then (if b then r else Some n) else Some n) ≡ None → (b ≡ true) × (r ≡ None)
+both_true true true n r e = (refl, e)
+both_true true false n r e = absurd cc
+both_true false b n r e = absurd cc
+
+all_built : (keyed : Bool) (n : ℕ) (lines : List PlanLine) (numbers : List ℕ) → length numbers ≡ length lines → other_from keyed n lines numbers ≡ None → AreBuilt lines
+all_built keyed n [] numbers even e = tt
+all_built keyed n (l ∷ lines) [] even e = absurd (omega (arith, even))
+all_built keyed n (l ∷ lines) (m ∷ numbers) even e =
+    let b = both_true (n == m) (is_built l) n (other_from keyed (n + 1) lines numbers) e in
+    (one_built l b.0, all_built keyed (n + 1) lines numbers (omega (arith, even)) b.1)
+
+pub plan_built : (text : List ℕ) (k : Known) → IsPlan text k → first_unbuilt k ≡ None → AreBuilt k.lines
+plan_built text k p none = all_built (is_some k.secret || is_some k.salt) 2 k.lines k.numbers (plan_numbered text k p) none

@@ -1,37 +1,46 @@
--- A file that was loaded.
-use Rattle.std.proofs.Common.{◌≡◌, ℕ, ◌+◌, ◌<◌, ◌≤◌, List, length, sym, ap, ◌∙◌, arith, Option, Some, None, Ok, Err, inl, inr, Vec, Global, length-take}
-use Rattle.std.proofs.lemmas.List.{take_all}
-use Rattle.host_traits.specs.Folders.{Files, Loaded}
+-- Files that were not loaded, or are of no use.
+use Rattle.std.proofs.Common.{◌≡◌, ℕ, ◌+◌, List, length, refl, subst, Option, Err, inl, inr}
+use Rattle.host_traits.specs.Folders.{Files, Errand, load_of, store_of}
+use Rattle.guest_files.specs.declared.load.Refusal.{Refusal}
+use Rattle.guest_files.specs.declared.load.Refusal.TheVariants as refusal
+use Rattle.guest_files.specs.Files.{IsThere, Passes, LoadFails, FailsAt}
+use Rattle.guest_files.specs.Stocking.{StockFails, unstocked}
 use Rattle.guest_cli.specs.declared.status.Status.{Status}
-use Rattle.guest_cli.specs.declared.status.Status.TheVariants.{Done, Usage, PlanFault, FileFault, TapeFault, ReadFault, WriteFault, BadFrame, TooMuch, Memory, Unbuilt}
-use Rattle.guest_cli.specs.Replay.{IsThere, IsLong, PlanRead, TapeRead}
-use Rattle.guest_cli.specs.Loads.{IsLoaded, IsPast, LoadFails, Taped, InputsFail}
+use Rattle.guest_cli.specs.declared.status.Status.TheVariants.{BootFault, Done, Usage, PlanFault, FileFault, TapeFault, StoreFault, ReadFault, WriteFault, BadFrame, TooMuch, Memory, Unbuilt}
+use Rattle.guest_cli.specs.Outside.{PlanRead, refused}
+use Rattle.guest_cli.specs.Replay.{TapeRead}
+use Rattle.guest_cli.specs.Serve.{ListRead, HostMade, loaded_with}
+use Rattle.guest_cli.specs.Loads.{LoadFault, InputsCause, StoresCause, Taped, Listed, InputsFail, ServedFails}
 
-module _ (name : List ℕ) (bytes : Vec ℕ Global) where
-  pub long_file : (files : Option Files) → Loaded files name 1073741824 (Ok bytes) → 1073741824 < length bytes.items → IsLong files name
-  long_file None l long = record { content = bytes.items; there = tt; long = omega (arith, long) }
-  long_file (Some f) l long = record { content = l.0; there = l.1; long = omega (arith, long, ap length l.2, length-take (1073741824 + 1) l.0) }
+pub load_status : (files : Option Files) (name : List ℕ) (before : ℕ) (r : Refusal) → LoadFails files name before r → LoadFault files name before (refused r)
+load_status files name before (refusal.File n) w = w
+load_status files name before (refusal.Line line kind) w = absurd w
+load_status files name before refusal.TooMuch w = w
+load_status files name before refusal.Memory w = w
 
-  pub past_file : (files : Option Files) (before : ℕ) → Loaded files name 1073741824 (Ok bytes) → 2147483648 < before + length bytes.items → IsPast files name before
-  past_file None before l past = record { content = bytes.items; there = tt; past = omega (arith, past) }
-  past_file (Some f) before l past = record { content = l.0; there = l.1; past = omega (arith, past, ap length l.2, length-take (1073741824 + 1) l.0) }
+pub load_cause : (T U : Type 0) (before now : ℕ) (last : Option Errand) (r : Refusal) → FailsAt {T = T} load_of before now last (Err r) → InputsCause {T = U} before now last (Err (refused r))
+load_cause T U before now last (refusal.File n) w = w
+load_cause T U before now last (refusal.Line line kind) w = w
+load_cause T U before now last refusal.TooMuch w = w
+load_cause T U before now last refusal.Memory w = w
 
-  whole_file : (files : Option Files) → Loaded files name 1073741824 (Ok bytes) → length bytes.items ≤ 1073741824 → IsThere files name bytes.items
-  whole_file None l few = tt
-  whole_file (Some f) l few =
-      let short : length l.0 ≤ 1073741824 + 1 = omega (arith, few, ap length l.2, length-take (1073741824 + 1) l.0) in
-      l.1 ∙ ap Some (sym (l.2 ∙ take_all (1073741824 + 1) l.0 short))
+pub store_cause : (T : Type 0) (before now : ℕ) (last : Option Errand) (r : Refusal) → FailsAt {T = T} store_of before now last (Err r) → StoresCause before now last (refused r)
+store_cause T before now last (refusal.File n) w = w
+store_cause T before now last (refusal.Line line kind) w = w
+store_cause T before now last refusal.TooMuch w = w
+store_cause T before now last refusal.Memory w = w
 
-  pub loaded_file : (files : Option Files) (before now : ℕ) → Loaded files name 1073741824 (Ok bytes) → length bytes.items ≤ 1073741824 → now ≡ before + length bytes.items → now ≤ 2147483648 → IsLoaded files name before now bytes.items
-  loaded_file files before now l few count all = record { there = whole_file files l few; few = omega (arith, few); count = count; all = omega (arith, all) }
+-- ---- a replay
 
 pub taped_fails : (files : Option Files) (plan tape entropy bytes : List ℕ) (status : Status) → PlanRead files plan → IsThere files tape bytes → Taped bytes (Err status) → InputsFail files plan tape entropy status
 taped_fails files plan tape entropy bytes (TapeFault at) read there w = (read, record { text = bytes; there = there; breaks = w })
 taped_fails files plan tape entropy bytes Memory read there w = tt
 taped_fails files plan tape entropy bytes Done read there w = absurd w
+taped_fails files plan tape entropy bytes (BootFault fault) read there w = absurd w
 taped_fails files plan tape entropy bytes Usage read there w = absurd w
 taped_fails files plan tape entropy bytes (PlanFault line kind) read there w = absurd w
 taped_fails files plan tape entropy bytes (FileFault name) read there w = absurd w
+taped_fails files plan tape entropy bytes (StoreFault line kind) read there w = absurd w
 taped_fails files plan tape entropy bytes ReadFault read there w = absurd w
 taped_fails files plan tape entropy bytes WriteFault read there w = absurd w
 taped_fails files plan tape entropy bytes (BadFrame at) read there w = absurd w
@@ -39,31 +48,94 @@ taped_fails files plan tape entropy bytes TooMuch read there w = absurd w
 taped_fails files plan tape entropy bytes (Unbuilt form at) read there w = absurd w
 
 -- the plan was read, and the tape can't be loaded
-pub tape_fails : (files : Option Files) (plan tape entropy : List ℕ) (before : ℕ) (status : Status) → PlanRead files plan → before ≤ 1073741824 → LoadFails files tape before status → InputsFail files plan tape entropy status
-tape_fails files plan tape entropy before (FileFault n) read few w = inr (inl (w, read))
-tape_fails files plan tape entropy before TooMuch read few (inl long) = inr (inl (long, read))
-tape_fails files plan tape entropy before TooMuch read few (inr past) = inr (inl (record { content = past.content; there = past.there; long = omega (arith, few, past.past) }, read))
-tape_fails files plan tape entropy before Memory read few w = tt
-tape_fails files plan tape entropy before Done read few w = absurd w
-tape_fails files plan tape entropy before Usage read few w = absurd w
-tape_fails files plan tape entropy before (PlanFault line kind) read few w = absurd w
-tape_fails files plan tape entropy before (TapeFault at) read few w = absurd w
-tape_fails files plan tape entropy before ReadFault read few w = absurd w
-tape_fails files plan tape entropy before WriteFault read few w = absurd w
-tape_fails files plan tape entropy before (BadFrame at) read few w = absurd w
-tape_fails files plan tape entropy before (Unbuilt form at) read few w = absurd w
+pub tape_fails : (files : Option Files) (plan tape entropy : List ℕ) (before : ℕ) (status : Status) → (read : PlanRead files plan) → before ≡ length read.text → LoadFault files tape before status → InputsFail files plan tape entropy status
+tape_fails files plan tape entropy before (FileFault n) read count w = inr (inl (w, read))
+tape_fails files plan tape entropy before TooMuch read count w = inr (inl (read, subst (λ (n : ℕ). Passes files tape n) count w))
+tape_fails files plan tape entropy before Memory read count w = tt
+tape_fails files plan tape entropy before Done read count w = absurd w
+tape_fails files plan tape entropy before (BootFault fault) read count w = absurd w
+tape_fails files plan tape entropy before Usage read count w = absurd w
+tape_fails files plan tape entropy before (PlanFault line kind) read count w = absurd w
+tape_fails files plan tape entropy before (TapeFault at) read count w = absurd w
+tape_fails files plan tape entropy before (StoreFault line kind) read count w = absurd w
+tape_fails files plan tape entropy before ReadFault read count w = absurd w
+tape_fails files plan tape entropy before WriteFault read count w = absurd w
+tape_fails files plan tape entropy before (BadFrame at) read count w = absurd w
+tape_fails files plan tape entropy before (Unbuilt form at) read count w = absurd w
 
 -- the plan and the tape were read, and the entropy can't be loaded
-pub entropy_fails : (files : Option Files) (plan tape entropy first second : List ℕ) (before : ℕ) (status : Status) → PlanRead files plan → TapeRead files tape → IsThere files plan first → IsThere files tape second → before ≡ length first + length second → LoadFails files entropy before status → InputsFail files plan tape entropy status
-entropy_fails files plan tape entropy first second before (FileFault n) read taped f s count w = inr (inr (w, read, taped))
-entropy_fails files plan tape entropy first second before TooMuch read taped f s count (inl long) = inr (inr (inl long, read, taped))
-entropy_fails files plan tape entropy first second before TooMuch read taped f s count (inr past) = inr (inr (inr (record { first = first; second = second; third = past.content; first_there = f; second_there = s; third_there = past.there; long = omega (arith, count, past.past) }), read, taped))
-entropy_fails files plan tape entropy first second before Memory read taped f s count w = tt
-entropy_fails files plan tape entropy first second before Done read taped f s count w = absurd w
-entropy_fails files plan tape entropy first second before Usage read taped f s count w = absurd w
-entropy_fails files plan tape entropy first second before (PlanFault line kind) read taped f s count w = absurd w
-entropy_fails files plan tape entropy first second before (TapeFault at) read taped f s count w = absurd w
-entropy_fails files plan tape entropy first second before ReadFault read taped f s count w = absurd w
-entropy_fails files plan tape entropy first second before WriteFault read taped f s count w = absurd w
-entropy_fails files plan tape entropy first second before (BadFrame at) read taped f s count w = absurd w
-entropy_fails files plan tape entropy first second before (Unbuilt form at) read taped f s count w = absurd w
+pub entropy_fails : (files : Option Files) (plan tape entropy : List ℕ) (before : ℕ) (status : Status) → (read : PlanRead files plan) → (taped : TapeRead files tape) → before ≡ length read.text + length taped.text → LoadFault files entropy before status
+    → InputsFail files plan tape entropy status
+entropy_fails files plan tape entropy before (FileFault n) read taped count w = inr (inr (w, read, taped))
+entropy_fails files plan tape entropy before TooMuch read taped count w = inr (inr (read, taped, subst (λ (n : ℕ). Passes files entropy n) count w))
+entropy_fails files plan tape entropy before Memory read taped count w = tt
+entropy_fails files plan tape entropy before Done read taped count w = absurd w
+entropy_fails files plan tape entropy before (BootFault fault) read taped count w = absurd w
+entropy_fails files plan tape entropy before Usage read taped count w = absurd w
+entropy_fails files plan tape entropy before (PlanFault line kind) read taped count w = absurd w
+entropy_fails files plan tape entropy before (TapeFault at) read taped count w = absurd w
+entropy_fails files plan tape entropy before (StoreFault line kind) read taped count w = absurd w
+entropy_fails files plan tape entropy before ReadFault read taped count w = absurd w
+entropy_fails files plan tape entropy before WriteFault read taped count w = absurd w
+entropy_fails files plan tape entropy before (BadFrame at) read taped count w = absurd w
+entropy_fails files plan tape entropy before (Unbuilt form at) read taped count w = absurd w
+
+-- ---- a session over the host of a store list
+
+-- the plan was read, and the store list can't be loaded
+pub list_fails : (files : Option Files) (plan store entropy : List ℕ) (before : ℕ) (status : Status) → (read : PlanRead files plan) → before ≡ length read.text → LoadFault files store before status → ServedFails files plan store entropy status
+list_fails files plan store entropy before (FileFault n) read count w = inr (inl (w, read))
+list_fails files plan store entropy before TooMuch read count w = inr (inl (read, subst (λ (n : ℕ). Passes files store n) count w))
+list_fails files plan store entropy before Memory read count w = tt
+list_fails files plan store entropy before Done read count w = absurd w
+list_fails files plan store entropy before (BootFault fault) read count w = absurd w
+list_fails files plan store entropy before Usage read count w = absurd w
+list_fails files plan store entropy before (PlanFault line kind) read count w = absurd w
+list_fails files plan store entropy before (TapeFault at) read count w = absurd w
+list_fails files plan store entropy before (StoreFault line kind) read count w = absurd w
+list_fails files plan store entropy before ReadFault read count w = absurd w
+list_fails files plan store entropy before WriteFault read count w = absurd w
+list_fails files plan store entropy before (BadFrame at) read count w = absurd w
+list_fails files plan store entropy before (Unbuilt form at) read count w = absurd w
+
+pub listed_fails : (files : Option Files) (plan store entropy text : List ℕ) (status : Status) → PlanRead files plan → IsThere files store text → Listed text (Err status) → ServedFails files plan store entropy status
+listed_fails files plan store entropy text (StoreFault line kind) read there w = inl (read, record { text = text; there = there; is = w })
+listed_fails files plan store entropy text Memory read there w = tt
+listed_fails files plan store entropy text Done read there w = absurd w
+listed_fails files plan store entropy text (BootFault fault) read there w = absurd w
+listed_fails files plan store entropy text Usage read there w = absurd w
+listed_fails files plan store entropy text (PlanFault line kind) read there w = absurd w
+listed_fails files plan store entropy text (FileFault name) read there w = absurd w
+listed_fails files plan store entropy text (TapeFault at) read there w = absurd w
+listed_fails files plan store entropy text ReadFault read there w = absurd w
+listed_fails files plan store entropy text WriteFault read there w = absurd w
+listed_fails files plan store entropy text (BadFrame at) read there w = absurd w
+listed_fails files plan store entropy text TooMuch read there w = absurd w
+listed_fails files plan store entropy text (Unbuilt form at) read there w = absurd w
+
+-- both were read, and a line of the list can't be carried out
+pub lines_fail : (files : Option Files) (plan store entropy : List ℕ) (before : ℕ) (r : Refusal) → (read : PlanRead files plan) → (list : ListRead files store) → before ≡ loaded_with read list → StockFails files list.lines (unstocked before) r
+    → ServedFails files plan store entropy (refused r)
+lines_fail files plan store entropy before (refusal.File name) read list count w =
+    inr (inr (inl (name, refl, record { planned = read; listed = list; fails = subst (λ (n : ℕ). StockFails files list.lines (unstocked n) (refusal.File name)) count w })))
+lines_fail files plan store entropy before (refusal.Line line kind) read list count w =
+    inr (record { planned = read; listed = list; fails = subst (λ (n : ℕ). StockFails files list.lines (unstocked n) (refusal.Line line kind)) count w })
+lines_fail files plan store entropy before refusal.TooMuch read list count w =
+    inr (inr (inl (record { planned = read; listed = list; fails = subst (λ (n : ℕ). StockFails files list.lines (unstocked n) refusal.TooMuch) count w })))
+lines_fail files plan store entropy before refusal.Memory read list count w = tt
+
+-- the host was made, and the entropy can't be loaded
+pub last_fails : (files : Option Files) (plan store entropy : List ℕ) (status : Status) → (made : HostMade files plan store) → LoadFault files entropy made.stock.loaded status → ServedFails files plan store entropy status
+last_fails files plan store entropy (FileFault n) made w = inr (inr (inr (w, made)))
+last_fails files plan store entropy TooMuch made w = inr (inr (inr (made, w)))
+last_fails files plan store entropy Memory made w = tt
+last_fails files plan store entropy Done made w = absurd w
+last_fails files plan store entropy (BootFault fault) made w = absurd w
+last_fails files plan store entropy Usage made w = absurd w
+last_fails files plan store entropy (PlanFault line kind) made w = absurd w
+last_fails files plan store entropy (TapeFault at) made w = absurd w
+last_fails files plan store entropy (StoreFault line kind) made w = absurd w
+last_fails files plan store entropy ReadFault made w = absurd w
+last_fails files plan store entropy WriteFault made w = absurd w
+last_fails files plan store entropy (BadFrame at) made w = absurd w
+last_fails files plan store entropy (Unbuilt form at) made w = absurd w

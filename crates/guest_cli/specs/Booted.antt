@@ -1,8 +1,52 @@
--- Plan lines that are in the grammar.
-use Rattle.std.specs.Prelude.{List}
-use Rattle.std.specs.List.{AllByRecursion}
+-- What boot makes of a plan's lines over a host, and why it came to no end.
+use Rattle.std.specs.Prelude.{◌≡◌, ◌≤◌, ◌⊎◌, ℕ, List, Result, Ok, Err}
+use Rattle.host_traits.specs.declared.calls.Call.{Call}
+use Rattle.host_traits.specs.declared.calls.Said.{Said}
+use Rattle.host_traits.specs.Did.{Trace, IsIn, byte_answers, trace_of}
+use Rattle.host_traits.specs.Told.{Told, Talked, Exchanges}
+use Rattle.verity_path.specs.declared.device.Device.{Device}
+use Rattle.ro_file.specs.Files.{MeasuredFile}
 use Rattle.guest_plan.specs.declared.plan.PlanLine.{PlanLine}
-use Rattle.guest_plan.specs.Spelling.{IsServed}
+use Rattle.guest_boot.specs.declared.faults.BootFault.{BootFault as Fault}
+use Rattle.guest_boot.specs.declared.faults.BootCause.{BootCause}
+use Rattle.guest_boot.specs.declared.faults.BootCause.TheVariants as cause
+use Rattle.guest_boot.specs.Finding.{TableOn}
+use Rattle.guest_boot.specs.Booting.{Boots, IsFault, IsForLines, most_of, nothing}
+use Rattle.guest_cli.specs.declared.boot.Machine.{Machine}
+use Rattle.guest_cli.specs.declared.status.Status.{Status}
+use Rattle.guest_cli.specs.declared.status.Status.TheVariants.{BootFault, Memory}
 
-abbrev pub AreServed : List PlanLine → Type 0
-AreServed lines = AllByRecursion IsServed lines
+-- these exchanges, cut in order into those of each line, make these devices and files
+pub record Opens (lines : List PlanLine) (own : Exchanges) (items : List Device) (files : List MeasuredFile) : Type 0 where
+  pub tables : List TableOn
+  pub boots : Boots nothing lines own (record { tables = tables; items = items; files = files })
+
+-- what came of boot
+abbrev pub BootedOutcome : List PlanLine → List ℕ → Result Machine Fault → Trace → Type 0
+BootedOutcome lines numbers (Ok m) t = Opens lines t.own m.engine.items m.engine.files
+BootedOutcome lines numbers (Err fault) t = (fault.why ≡ cause.Memory) ⊎ IsFault lines numbers fault t
+
+-- the lines were opened over a host: what it told before and after, and these exchanges between
+pub record BootsOver (lines : List PlanLine) (start mid : Told) (booted : Exchanges) (items : List Device) : Type 0 where
+  pub talked : Talked start mid booted
+  pub calls : (call : Call) (said : Said) → IsIn call said booted → IsForLines lines call
+  pub few : byte_answers booted ≤ most_of lines
+  pub files : List MeasuredFile
+  pub opens : Opens lines booted items files
+
+-- a line was not opened, by what was heard for it
+pub record Unbooted (lines : List PlanLine) (numbers : List ℕ) (start : Told) (fault : Fault) : Type 0 where
+  pub finish : Told
+  pub own : Exchanges
+  pub talked : Talked start finish own
+  pub calls : (call : Call) (said : Said) → IsIn call said own → IsForLines lines call
+  pub few : byte_answers own ≤ most_of lines
+  pub is : IsFault lines numbers fault (trace_of own start finish)
+
+-- a fault of boot as a status
+abbrev pub boot_status_by : Fault → BootCause → Status
+boot_status_by fault cause.Memory = Memory
+boot_status_by fault why = BootFault fault
+
+abbrev pub boot_status : Fault → Status
+boot_status fault = boot_status_by fault fault.why

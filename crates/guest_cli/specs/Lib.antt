@@ -6,5 +6,8 @@ pub mod Booted
 pub mod Statuses
 pub mod Words
 pub mod Asked
+pub mod Outside
 pub mod Replay
+pub mod Serve
+pub mod Guest
 pub mod Loads

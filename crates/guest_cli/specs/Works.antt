@@ -5,12 +5,14 @@ use Rattle.verity_path.specs.declared.device.Cause.TheVariants as cause
 use Rattle.verity_path.specs.declared.device.Device.{Device}
 use Rattle.verity_path.specs.declared.walk.WalkFault.{WalkFault}
 use Rattle.verity_path.specs.declared.walk.WalkFault.TheVariants as fault
+use Rattle.ro_file.specs.Files.{MeasuredFile}
 use Rattle.guest_rules.specs.Machine.{State}
 use Rattle.guest_cli.specs.declared.engine.FrameAnswer.{FrameAnswer}
 
--- the items of channel 1, the machine's state, and the bytes that a reply sends
+-- the items of channel 1, the read-only files, the machine's state, and the bytes that a reply sends
 pub record Works : Type 0 where
   pub items : List Device
+  pub files : List MeasuredFile
   pub state : State
   pub served : List ℕ
 

@@ -1,19 +1,21 @@
 // From a plan to a machine.
-ghost use Rattle.std.specs.Prelude.{◌≡◌, ◌≤◌, ◌<◌, ◌+◌, ◌^◌, ℕ, List, [], length, IfOk, drop, ◌++◌};
-ghost use Rattle.guest_rules.specs.Machine.{AreItems};
+ghost use Rattle.std.specs.Prelude.{◌≡◌, ◌≤◌, ◌<◌, ◌+◌, ◌^◌, ℕ, List, [], length, IfOk, None, drop, ◌++◌};
+ghost use Rattle.host_traits.specs.Did.{Did};
 ghost use Rattle.guest_plan.specs.Plans.{known};
 ghost use Rattle.guest_plan.specs.Spelling.{IsPlan};
-ghost use Rattle.guest_cli.specs.Planned.{items_of, is_blob, other_from, first_unbuilt};
-ghost use Rattle.guest_cli.specs.Booted.{AreServed};
+ghost use Rattle.guest_boot.specs.Booting.{IsForLines, most_of};
+ghost use Rattle.guest_cli.specs.Planned.{is_built, other_from, first_unbuilt};
+ghost use Rattle.guest_cli.specs.Booted.{BootedOutcome};
 
 use crate::engine::Engine;
 use crate::entropy::Entropy;
-use guest_plan::{Plan, PlanLine};
-use host_traits::Raw;
+use guest_boot::{BootCause, BootFault, open_lines};
+use guest_plan::{How, Plan, PlanLine};
+use host_traits::{Host, Raw};
 use mg_base::{Memory, Page};
 use session_frames::Splitter;
 use std::alloc::Global;
-use verity_path::{Buffers, Device, Layout, Served};
+use verity_path::{Buffers, Served};
 
 /// What a session works on.
 #[derive(Drop)]
@@ -22,20 +24,23 @@ pub struct Machine {
     pub splitter: Splitter,
 }
 
-// Is it the line of a measured device on a file of the host?
-fn is_blob(line: &PlanLine) -> bool
-    ensures { result ≡ is_blob line.now }
+// Is it a line that is served?
+fn is_built(line: &PlanLine) -> bool
+    ensures { result ≡ is_built line.now }
 {
     match line {
-        PlanLine::Blob {
-            file: _,
-            measure: _,
-        } => true,
+        PlanLine::Blob { .. } => true,
+        PlanLine::Apk { how, .. } => match how {
+            How::Fixed(_) => true,
+            How::First => true,
+            How::Kept(_) => false,
+        },
+        PlanLine::File { .. } => true,
         _ => false,
     }
 }
 
-// The first line of the text from `from` on that is not a blob's, where `keyed` says that one of the lines without a number
+// The first line of the text from `from` on that is not served, where `keyed` says that one of the lines without a number
 // here is the secret's or the salt's.
 fn other_from(keyed: bool, from: u64, lines: &[PlanLine], numbers: &[u64]) -> Option<u64>
     requires { from + length lines.now < 2 ^ 64 }
@@ -47,13 +52,14 @@ fn other_from(keyed: bool, from: u64, lines: &[PlanLine], numbers: &[u64]) -> Op
     let [number, rest @ ..] = numbers else {
         return None;
     };
-    if *number == from && is_blob(line) {
+    if *number == from && is_built(line) {
         return other_from(keyed, from + 1, later, rest);
     }
     Some(from)
 }
 
-/// The first line of a plan that asks for what isn't served yet: any but a blob's.
+/// The first line of a plan that asks for what isn't served yet: any but a blob's, a file's, and an APK's whose measure is in the
+/// plan or the host's.
 pub fn first_unbuilt(plan: &Plan) -> Option<u64>
     ensures { result ≡ first_unbuilt (known plan.now) }
 {
@@ -61,39 +67,61 @@ pub fn first_unbuilt(plan: &Plan) -> Option<u64>
     other_from(keyed, 2, &plan.lines, &plan.numbers)
 }
 
-// The measured items of a plan's lines, in their order.
-fn items(alloc: Global, lines: &[PlanLine]) -> Result<Vec<Device>, Memory>
-    requires { AreServed lines.now }
-    ensures { IfOk result (λ v. v.items ≡ items_of lines.now) }
-{
-    let mut items = Vec::new(alloc);
-    for line in lines {
-        if let PlanLine::Blob { file, measure } = line {
-            items.push(Device {
-                measure: *measure,
-                layout: Layout::File {
-                    file: *file,
-                    size: 4096 * measure.blocks,
-                },
-            })?;
-        }
-    }
-    Ok(items)
+// Room for one answer, one page, one reply and one frame.
+#[derive(Drop)]
+struct Rooms {
+    served: Served,
+    buf: Buffers,
+    splitter: Splitter,
 }
 
-/// Makes a machine for a plan. Room for one answer, one page, one reply and one frame is taken here, and none later: over a
-/// host that takes no memory, a measured read takes none.
-pub fn boot(alloc: Global, plan: &Plan, entropy: Entropy) -> Result<Machine, Memory>
-    requires { (text : List ℕ) × IsPlan text (known plan.now) }
-    ensures items { IfOk result (λ m. m.engine.items ≡ items_of plan.now.lines.items) }
-    ensures state { IfOk result (λ m. m.engine.state ≡ record { entropy = entropy }) }
-    ensures splitter { IfOk result (λ m. m.splitter ≡ record { held = []; at = 0 }) }
+fn take_rooms(alloc: Global) -> Result<Rooms, Memory>
+    ensures splitter { IfOk result (λ r. r.splitter ≡ record { held = []; at = 0 }) }
 {
-    let items = items(alloc, &plan.lines)?;
     let served = Served::new(alloc)?;
     let raw = Raw::new(alloc)?;
     let page = Page::new(alloc)?;
     let splitter = Splitter::new(alloc)?;
-    let engine = Engine::new(items, entropy, served, Buffers { raw, page });
-    Ok(Machine { engine, splitter })
+    Ok(Rooms {
+        served,
+        buf: Buffers { raw, page },
+        splitter,
+    })
+}
+
+/// Makes a machine for a plan: its lines are opened in their order, by calls of the host. Room for one answer, one page, one
+/// reply and one frame is taken here, and none later: over a host that takes no memory, a measured read takes none.
+pub fn boot<H: Host>(
+    alloc: Global,
+    plan: &Plan,
+    entropy: Entropy,
+    host: &mut H,
+) -> Result<Machine, BootFault>
+    requires plan { (text : List ℕ) × IsPlan text (known plan.now) }
+    requires built { first_unbuilt (known plan.now) ≡ None }
+    ensures booted { Did (IsForLines plan.now.lines.items) (most_of plan.now.lines.items) (H.told host.old) (H.told host.new) (BootedOutcome plan.now.lines.items plan.now.numbers.items result) }
+    ensures state { IfOk result (λ m. m.engine.state ≡ record { entropy = entropy }) }
+    ensures splitter { IfOk result (λ m. m.splitter ≡ record { held = []; at = 0 }) }
+{
+    let Rooms {
+        served,
+        mut buf,
+        splitter,
+    } = match take_rooms(alloc) {
+        Ok(rooms) => rooms,
+        Err(_) => {
+            return Err(BootFault {
+                line: 1,
+                why: BootCause::Memory,
+            });
+        }
+    };
+    let opened = match open_lines(alloc, host, &plan.lines, &plan.numbers, &mut buf) {
+        Ok(opened) => opened,
+        Err(fault) => return Err(fault),
+    };
+    Ok(Machine {
+        engine: Engine::new(opened, entropy, served, buf),
+        splitter,
+    })
 }

@@ -4,10 +4,13 @@ ghost use Rattle.std.specs.Int.{w32, w64, from_le_bytes};
 ghost use Rattle.session_frames.specs.Replies.{sent_of};
 ghost use Rattle.guest_rules.specs.Machine.{AreItems, item_read};
 ghost use Rattle.guest_rules.specs.Step.{Stepped};
+ghost use Rattle.guest_rules.specs.Faithful.{ReadIsServed};
 ghost use Rattle.guest_cli.specs.Works.{answer_to_read};
 
 use crate::entropy::Entropy;
+use guest_boot::Opened;
 use host_traits::Host;
+use ro_file::RoFile;
 use session_frames::ReplyFrame;
 use std::marker::Model;
 use verity_path::{Buffers, Cause, Device, Served, WalkFault, read_range};
@@ -16,6 +19,7 @@ use verity_path::{Buffers, Cause, Device, Served, WalkFault, read_range};
 #[derive(Drop)]
 pub struct Engine {
     items: Vec<Device>,
+    files: Vec<RoFile>,
     entropy: Entropy,
     served: Served,
     buf: Buffers,
@@ -27,7 +31,7 @@ impl Model for Engine {
 
     ghost Value = { Works };
 
-    ghost view = { λ e. record { items = e.items.items; state = record { entropy = e.entropy }; served = e.served } };
+    ghost view = { λ e. record { items = e.items.items; files = e.files.items; state = record { entropy = e.entropy }; served = e.served } };
 
     ghost invariant = { λ e. AreItems e.items.items };
 }
@@ -94,13 +98,15 @@ fn read_answer(done: Result<(), WalkFault>) -> FrameAnswer
 }
 
 impl Engine {
-    // An engine of these items.
-    pub(crate) fn new(items: Vec<Device>, entropy: Entropy, served: Served, buf: Buffers) -> Engine
-        requires { AreItems items.items }
-        ensures { result ≡ record { items = items.items; state = record { entropy = entropy }; served = served } }
+    // An engine of these devices and files.
+    pub(crate) fn new(opened: Opened, entropy: Entropy, served: Served, buf: Buffers) -> Engine
+        requires { AreItems opened.items.items }
+        ensures { result ≡ record { items = opened.items.items; files = opened.files.items; state = record { entropy = entropy }; served = served } }
     {
+        let Opened { items, files } = opened;
         Engine {
             items,
+            files,
             entropy,
             served,
             buf,
@@ -115,14 +121,8 @@ impl Engine {
     }
 }
 
-/// The work of one frame: the reply, and why it is a failure. A read of a measured item is answered with code 2 where there is
-/// no such item, else with 22 where its size is above 131,072, else with the bytes, or with 5 or 12.
-pub fn answer_frame<H: Host>(
-    engine: &mut Engine,
-    host: &mut H,
-    channel: u8,
-    payload: &[u8],
-) -> FrameAnswer
+// The work of one frame, as one step of the machine.
+fn work<H: Host>(engine: &mut Engine, host: &mut H, channel: u8, payload: &[u8]) -> FrameAnswer
     requires channel { channel ≡ 1 }
     requires payload { length payload.now ≡ 16 }
     ensures items { engine.new.items ≡ engine.old.items }
@@ -149,4 +149,24 @@ pub fn answer_frame<H: Host>(
         &mut engine.served,
     );
     read_answer(done)
+}
+
+/// The work of one frame: the reply, and why it is a failure. A read of a measured item is answered with code 2 where there is
+/// no such item, else with 22 where its size is above 131,072, else with the bytes, or with 5 or 12. Over a host
+/// that holds the item as it was measured, a read in which no call fails is answered with the bytes, or with 12.
+pub fn answer_frame<H: Host>(
+    engine: &mut Engine,
+    host: &mut H,
+    channel: u8,
+    payload: &[u8],
+) -> FrameAnswer
+    requires channel { channel ≡ 1 }
+    requires payload { length payload.now ≡ 16 }
+    ensures items { engine.new.items ≡ engine.old.items }
+    ensures step { Stepped engine.old.items engine.old.state engine.new.state (H.told host.old) (H.told host.new)
+        (record { channel = channel; payload = payload.now }) (sent_of result.reply engine.new.served) result.cause }
+    ensures served { ReadIsServed engine.old.items (H.told host.old) (H.told host.new)
+        (record { channel = channel; payload = payload.now }) (sent_of result.reply engine.new.served) result.cause }
+{
+    work(engine, host, channel, payload)
 }

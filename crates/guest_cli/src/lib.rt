@@ -4,8 +4,10 @@
 pub mod boot;
 pub mod engine;
 pub mod entropy;
-pub mod files;
 pub mod log;
+mod outside;
+mod replaying;
+mod serving;
 pub mod session;
 pub mod status;
 pub mod top;

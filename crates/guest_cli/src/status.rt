@@ -5,6 +5,7 @@ ghost use Rattle.host_traits.specs.Streams.{SomePrefix, HasCause};
 ghost use Rattle.guest_cli.specs.Statuses.{status_number, kind_word, form_word, end_words, file_end, end_line};
 
 use crate::log::Line;
+use guest_boot::{BootFault, write_boot_end};
 use guest_plan::PlanKind;
 use host_traits::{Failed, Sink};
 
@@ -32,12 +33,16 @@ pub enum Status {
     FileFault { name: String },
     /// From this offset on the tape isn't in its grammar.
     TapeFault { at: u64 },
+    /// The store list isn't in its grammar, or one of its files is none that its line can use: the line, and what is wrong.
+    StoreFault { line: u64, kind: PlanKind },
     /// The source failed.
     ReadFault,
     /// The output or the log failed.
     WriteFault,
     /// At this offset of the stream no frame begins, or the stream ends inside one.
     BadFrame { at: u64 },
+    /// A line of the plan couldn't be opened over the host.
+    BootFault(BootFault),
     /// A limit on bytes was passed.
     TooMuch,
     /// Want of memory.
@@ -56,10 +61,11 @@ impl Status {
             Status::Usage => 1,
             Status::PlanFault { line: _, kind: _ } => 2,
             Status::FileFault { name: _ } => 3,
-            Status::TapeFault { at: _ } => 4,
+            Status::TapeFault { at: _ } | Status::StoreFault { line: _, kind: _ } => 4,
             Status::ReadFault => 5,
             Status::WriteFault => 6,
             Status::BadFrame { at: _ } => 7,
+            Status::BootFault(_) => 8,
             Status::TooMuch => 9,
             Status::Memory => 10,
             Status::Unbuilt { form: _, at: _ } => 12,
@@ -119,6 +125,12 @@ fn end_words(status: &Status) -> Line
             line.put(b"end 4 tape ");
             line.number(*at);
         }
+        Status::StoreFault { line: number, kind } => {
+            line.put(b"end 4 store ");
+            line.number(*number);
+            line.put(b" ");
+            line.put(kind_word(*kind));
+        }
         Status::ReadFault => line.put(b"end 5 read"),
         Status::BadFrame { at } => {
             line.put(b"end 7 frame ");
@@ -163,6 +175,7 @@ pub fn write_end<L: Sink>(status: &Status, log: &mut L) -> Result<(), Failed>
 {
     match status {
         Status::FileFault { name } => write_file_end(name.as_str(), log),
+        Status::BootFault(fault) => write_boot_end(fault, log),
         Status::Done | Status::WriteFault => Ok(()),
         _ => {
             let mut line = end_words(status);

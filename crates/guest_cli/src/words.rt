@@ -13,8 +13,15 @@ pub enum Command<'a> {
         tape: &'a str,
         entropy: &'a str,
     },
+    /// A session over a host made from a store list, with the names of three files and of the one for the tape.
+    Serve {
+        plan: &'a str,
+        store: &'a str,
+        entropy: &'a str,
+        tape_out: &'a str,
+    },
     /// A form that isn't served yet.
-    Unbuilt,
+    Soak,
 }
 
 // One digit from 1 to 8.
@@ -32,15 +39,22 @@ pub fn command_of(words: &[String]) -> Option<Command<'_>>
     ensures { option_map asked_by result ≡ command_of (map string_bytes words.now) }
 {
     match words {
-        [word, rounds] if word.as_str() == "soak" && is_rounds(rounds.as_str()) => Some(
-            Command::Unbuilt,
-        ),
+        [word, rounds] if word.as_str() == "soak" && is_rounds(rounds.as_str()) => {
+            Some(Command::Soak)
+        }
         [word, plan, tape, entropy] if word.as_str() == "replay" => Some(Command::Replay {
             plan: plan.as_str(),
             tape: tape.as_str(),
             entropy: entropy.as_str(),
         }),
-        [word, _plan, _store, _entropy, _out] if word.as_str() == "serve" => Some(Command::Unbuilt),
+        [word, plan, store, entropy, tape_out] if word.as_str() == "serve" => {
+            Some(Command::Serve {
+                plan: plan.as_str(),
+                store: store.as_str(),
+                entropy: entropy.as_str(),
+                tape_out: tape_out.as_str(),
+            })
+        }
         _ => None,
     }
 }

@@ -1,12 +1,26 @@
-use Rattle.std.proofs.Common.{subst, sym, ◌∙◌, ap}
-use Rattle.guest_rules.specs.Machine.{AreItems}
-use Rattle.guest_cli.specs.Booted.{AreServed}
-use Rattle.guest_cli.specs.Planned.{items_of}
-use Rattle.guest_cli.proofs.Booting.{plan_served, are_items}
+use Rattle.std.proofs.Common.{inr}
+use Rattle.guest_plan.specs.Plans.{known}
+use Rattle.guest_cli.proofs.Booting.{plan_built, plan_served, plan_numbered}
 use Rattle.guest_cli.proofs.boot.boot.Goals as goal
 
-pub items-requires : goal.items-requires
-items-requires c = subst AreServed (sym c.deref.ensures.value) (plan_served c.requires.0 _ c.requires.1)
+pub open_lines-requires-clause-built : goal.open_lines-requires-clause-built
+open_lines-requires-clause-built g c = rw c.deref.ensures.value (plan_built c.requires.plan.0 (known c.args.plan.now) c.requires.plan.1 c.requires.built)
 
-pub new-engine-requires : goal.new-engine-requires
-new-engine-requires c = subst AreItems (sym (c.in_ok-items.ensures ∙ ap items_of c.deref.ensures.value)) (are_items _ (plan_served c.requires.0 _ c.requires.1))
+pub open_lines-requires-clause-served : goal.open_lines-requires-clause-served
+open_lines-requires-clause-served g c = rw c.deref.ensures.value (plan_served c.requires.plan.0 (known c.args.plan.now) c.requires.plan.1)
+
+pub open_lines-requires-clause-numbers : goal.open_lines-requires-clause-numbers
+open_lines-requires-clause-numbers g c = rw (c.deref-2.ensures.value, c.deref.ensures.value) (plan_numbered c.requires.plan.0 (known c.args.plan.now) c.requires.plan.1)
+
+pub returns-in-Err-open_lines-clause-booted : goal.returns-in-Err-open_lines-clause-booted
+returns-in-Err-open_lines-clause-booted g c =
+    let d = rw (c.deref.ensures.value, c.deref-2.ensures.value) at c.in-Err-open_lines.ensures.booted in
+    record { own = d.own; talked = d.talked; calls = d.calls; few = d.few; outcome = inr d.outcome }
+
+pub new-requires : goal.new-requires
+new-requires g c = λ k it at. let i = c.in-Ok-open_lines.ensures.items k it at in record { least = i.least; most = i.most; suits = i.suits }
+
+pub returns-clause-booted : goal.returns-clause-booted
+returns-clause-booted g c =
+    let d = rw (c.deref.ensures.value, c.deref-2.ensures.value) at c.in-Ok-open_lines.ensures.booted in
+    record { own = d.own; talked = d.talked; calls = d.calls; few = d.few; outcome = rw c.new.ensures (record { tables = d.outcome.0; boots = d.outcome.1 }) }
