@@ -1,0 +1,10 @@
+pub mod Prefixes
+pub mod Trees
+pub mod Listed
+pub mod Cuts
+pub mod Pieced
+pub mod Fits
+pub mod Described
+pub mod Placing
+pub mod Naming
+pub mod Storing

@@ -1,0 +1,9 @@
+pub mod Statuses
+pub mod Words
+pub mod Asked
+pub mod Loads
+pub mod Measuring
+pub mod Parts
+pub mod Composing
+pub mod Composed
+pub mod Made

@@ -1,0 +1,18 @@
+//! What `mkguest` makes: idsigs, measures, and composite disks, from the files of a folder.
+#![tactic(auto)]
+
+pub mod composing;
+pub mod lines;
+pub mod loading;
+pub mod making;
+pub mod measuring;
+pub mod parts;
+pub mod pieces;
+pub mod status;
+#[cfg(test)]
+mod tests;
+pub mod top;
+pub mod words;
+
+pub use crate::status::{Status, UnfitKind};
+pub use crate::top::mkguest;

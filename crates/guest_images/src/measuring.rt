@@ -1,0 +1,134 @@
+// A file's measure, and its idsig.
+ghost use Rattle.std.specs.Prelude.{◌≡◌, ◌≤◌, ◌<◌, ◌+◌, ◌^◌, ℕ, List, [], length, IfOk, IfErr, OnOk};
+ghost use Rattle.host_traits.specs.Told.{Rose};
+ghost use Rattle.sha_tree.specs.Tree.{block_count, root};
+ghost use Rattle.guest_images.specs.Loads.{FileCause};
+ghost use Rattle.std.specs.declared.option.Option.{Option};
+ghost use Rattle.guest_images.specs.Measuring.{IsIdsigFor, Measures, Signs, idsig_for, measure_lines, measured_lines};
+
+use crate::lines::Line;
+use crate::loading::{load, store};
+use crate::status::{Status, UnfitKind};
+use host_traits::{Folder, Sink};
+use idsig_v4::write_idsig;
+use mg_base::{Digest, Memory, Salt};
+use sha_tree::build_tree;
+use std::alloc::Global;
+use verity_descriptor::{Descriptor, file_digest};
+
+// How many blocks so many bytes have.
+fn blocks_of(bytes: &[u8]) -> u64
+    requires { length bytes.now ≤ 2 ^ 30 }
+    ensures { result ≡ block_count (length bytes.now) }
+{
+    (bytes.len() as u64).div_ceil(4096)
+}
+
+// The lines of a measure.
+fn lines_of(blocks: u64, salt: &Salt, root: &Digest, digest: &Digest) -> Line
+    ensures { result ≡ measured_lines blocks salt.now root.now.0 digest.now.0 }
+{
+    let mut line = Line::new();
+    line.put(b"measure ");
+    line.number(blocks);
+    line.put(b" ");
+    line.salt(salt);
+    line.put(b" ");
+    line.hex(&root.0);
+    line.put(b"\n");
+    line.put(b"digest ");
+    line.hex(&digest.0);
+    line.put(b"\n");
+    line
+}
+
+// The lines of a content.
+fn measured(alloc: Global, content: &[u8], salt: &Salt) -> Result<Line, Memory>
+    requires { length content.now ≤ 2 ^ 30 }
+    ensures { IfOk result (λ line. line ≡ measure_lines content.now salt.now) }
+{
+    let tree = match build_tree(alloc, content, *salt) {
+        Ok(tree) => tree,
+        Err(_) => return Err(Memory),
+    };
+    let digest = file_digest(&Descriptor {
+        size: tree.size,
+        root: tree.root,
+        salt: *salt,
+    });
+    Ok(lines_of(blocks_of(content), salt, &tree.root, &digest))
+}
+
+/// Prints a file's measure and digest.
+pub(crate) fn measure_file<F: Folder, L: Sink>(
+    alloc: Global,
+    file: &str,
+    salt: Salt,
+    folder: &mut F,
+    log: &mut L,
+) -> Status
+    ensures measures { Measures (record { old = F.files folder.old; new = F.files folder.new; last = F.last_failed folder.new }) (record { old = L.holds log.old; new = L.holds log.new }) file.now salt result }
+    ensures file { FileCause (F.faults folder.old) (F.faults folder.new) (F.last_failed folder.new) result }
+    ensures write { result ≡ Status.WriteFault → Rose (L.faults log.old) (L.faults log.new) }
+    ensures log { L.faults log.old ≤ L.faults log.new }
+{
+    let mut loaded = 0;
+    let content = match load(alloc, folder, file, &mut loaded) {
+        Ok(content) => content,
+        Err(status) => return status,
+    };
+    let line = match measured(alloc, &content, &salt) {
+        Ok(line) => line,
+        Err(_) => return Status::Memory,
+    };
+    match log.write_all(line.bytes()) {
+        Ok(()) => Status::Done,
+        Err(_) => Status::WriteFault,
+    }
+}
+
+// The idsig of a content of two blocks or more.
+fn signed(alloc: Global, content: &[u8], salt: &Salt) -> Result<Vec<u8>, Memory>
+    requires few { length content.now ≤ 2 ^ 30 }
+    requires enough { 2 ≤ block_count (length content.now) }
+    ensures value { IfOk result (λ v. v.items ≡ idsig_for content.now salt.now) }
+    ensures grammar { OnOk result (IsIdsigFor content.now salt.now) }
+{
+    let tree = match build_tree(alloc, content, *salt) {
+        Ok(tree) => tree,
+        Err(_) => return Err(Memory),
+    };
+    let mut out = Vec::new(alloc);
+    match write_idsig(salt, &tree.root, &[], &tree.stored, &mut out) {
+        Ok(()) => Ok(out),
+        Err(_) => Err(Memory),
+    }
+}
+
+/// Stores a file's idsig.
+pub(crate) fn sign_file<F: Folder>(
+    alloc: Global,
+    file: &str,
+    salt: Salt,
+    out: &str,
+    folder: &mut F,
+) -> Status
+    ensures signs { (log : Option (List ℕ)) → Signs (record { old = F.files folder.old; new = F.files folder.new; last = F.last_failed folder.new }) (record { old = log; new = log }) file.now salt out.now result }
+    ensures file { FileCause (F.faults folder.old) (F.faults folder.new) (F.last_failed folder.new) result }
+    ensures never { result ≡ Status.WriteFault → ⊥ }
+{
+    let mut loaded = 0;
+    let content = match load(alloc, folder, file, &mut loaded) {
+        Ok(content) => content,
+        Err(status) => return status,
+    };
+    if blocks_of(&content) < 2 {
+        return Status::Unfit {
+            kind: UnfitKind::TooFewBlocks,
+        };
+    }
+    match signed(alloc, &content, &salt) {
+        Ok(bytes) => store(alloc, folder, out, &bytes),
+        Err(_) => Status::Memory,
+    }
+}

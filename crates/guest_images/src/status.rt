@@ -1,0 +1,166 @@
+// The statuses of a run, and its end line.
+ghost use Rattle.std.specs.Prelude.{◌≡◌, ◌≤◌, ◌+◌, ◌++◌, ℕ, List, [], length, OnOk, OnErr};
+ghost use Rattle.std.specs.Io.KnownBytes.{Appends};
+ghost use Rattle.host_traits.specs.Streams.{SomePrefix, HasCause};
+ghost use Rattle.guest_images.specs.Statuses.{status_number, kind_word, unfit_word, end_words, file_end, end_line};
+
+use crate::lines::Line;
+use guest_plan::PlanKind;
+use host_traits::{Failed, Sink};
+
+/// Why nothing can be made of files that were loaded.
+#[derive(Clone, Copy, Debug, PartialEq, Eq, Drop)]
+pub enum UnfitKind {
+    /// A file of fewer than two blocks has no stored tree.
+    TooFewBlocks,
+    /// A part of an empty file.
+    Empty,
+    /// A part that may be written, of a file that is no whole number of blocks.
+    Uneven,
+    /// More than 128 parts.
+    TooMany,
+    /// No part.
+    NoParts,
+}
+
+/// How a run ended.
+#[derive(Drop)]
+pub enum Status {
+    /// What the words ask for was made.
+    Done,
+    /// The words are none of the forms.
+    Usage,
+    /// The list isn't in its grammar: its first bad line, and the first thing wrong with it.
+    ListFault { line: u64, kind: PlanKind },
+    /// The folder failed at this file.
+    FileFault { name: String },
+    /// The log failed.
+    WriteFault,
+    /// A limit on bytes was passed.
+    TooMuch,
+    /// Want of memory.
+    Memory,
+    /// Nothing can be made of the files.
+    Unfit { kind: UnfitKind },
+    /// A form of the words that isn't served yet.
+    Unbuilt { at: u64 },
+}
+
+impl Status {
+    /// The number that the program ends with.
+    pub fn number(&self) -> u8
+        ensures { result ≡ status_number self.now }
+    {
+        match self {
+            Status::Done => 0,
+            Status::Usage => 1,
+            Status::ListFault { line: _, kind: _ } => 2,
+            Status::FileFault { name: _ } => 3,
+            Status::WriteFault => 6,
+            Status::TooMuch => 9,
+            Status::Memory => 10,
+            Status::Unfit { kind: _ } => 11,
+            Status::Unbuilt { at: _ } => 12,
+        }
+    }
+}
+
+// A kind's name in lower case.
+fn kind_word(kind: PlanKind) -> &'static [u8]
+    ensures word { result.now ≡ kind_word kind }
+    ensures len { length result.now ≤ 7 }
+{
+    match kind {
+        PlanKind::Header => b"header",
+        PlanKind::End => b"end",
+        PlanKind::Lines => b"lines",
+        PlanKind::Word => b"word",
+        PlanKind::Fields => b"fields",
+        PlanKind::Number => b"number",
+        PlanKind::Hex => b"hex",
+        PlanKind::Name => b"name",
+        PlanKind::Uuid => b"uuid",
+        PlanKind::Range => b"range",
+        PlanKind::Twice => b"twice",
+        PlanKind::Missing => b"missing",
+        PlanKind::Length => b"length",
+        PlanKind::Spec => b"spec",
+    }
+}
+
+fn unfit_word(kind: UnfitKind) -> &'static [u8]
+    ensures word { result.now ≡ unfit_word kind }
+    ensures len { length result.now ≤ 12 }
+{
+    match kind {
+        UnfitKind::TooFewBlocks => b"toofewblocks",
+        UnfitKind::Empty => b"empty",
+        UnfitKind::Uneven => b"uneven",
+        UnfitKind::TooMany => b"toomany",
+        UnfitKind::NoParts => b"noparts",
+    }
+}
+
+// The end line without its line feed, of a status whose line has no name.
+fn end_words(status: &Status) -> Line
+    ensures words { result ≡ end_words status.now }
+    ensures len { length result ≤ 60 }
+{
+    let mut line = Line::new();
+    match status {
+        Status::Usage => line.put(b"end 1 usage"),
+        Status::ListFault { line: number, kind } => {
+            line.put(b"end 2 list ");
+            line.number(*number);
+            line.put(b" ");
+            line.put(kind_word(*kind));
+        }
+        Status::TooMuch => line.put(b"end 9 much"),
+        Status::Memory => line.put(b"end 10 memory"),
+        Status::Unfit { kind } => {
+            line.put(b"end 11 unfit ");
+            line.put(unfit_word(*kind));
+        }
+        Status::Unbuilt { at } => {
+            line.put(b"end 12 unbuilt command ");
+            line.number(*at);
+        }
+        _ => {}
+    }
+    line
+}
+
+// Writes a file's end line.
+fn write_file_end<L: Sink>(name: &str, log: &mut L) -> Result<(), Failed>
+    ensures ok { OnOk result (Appends (L.holds log.old) (L.holds log.new) (file_end name.now)) }
+    ensures err { OnErr result (SomePrefix (L.holds log.old) (L.holds log.new) (file_end name.now)) }
+    ensures cause { HasCause (L.faults log.old) (L.faults log.new) result }
+{
+    match log.write_all(b"end 3 file ") {
+        Ok(()) => {}
+        Err(failed) => return Err(failed),
+    }
+    match log.write_all(name.as_bytes()) {
+        Ok(()) => {}
+        Err(failed) => return Err(failed),
+    }
+    log.write_all(b"\n")
+}
+
+/// Writes the end line of a status. A finished run and a fault of the log have none, and then the log isn't asked. After
+/// `Failed` a front part of it was written. It takes no memory.
+pub fn write_end<L: Sink>(status: &Status, log: &mut L) -> Result<(), Failed>
+    ensures ok { OnOk result (Appends (L.holds log.old) (L.holds log.new) (end_line status.now)) }
+    ensures err { OnErr result (SomePrefix (L.holds log.old) (L.holds log.new) (end_line status.now)) }
+    ensures cause { HasCause (L.faults log.old) (L.faults log.new) result }
+{
+    match status {
+        Status::FileFault { name } => write_file_end(name.as_str(), log),
+        Status::Done | Status::WriteFault => Ok(()),
+        _ => {
+            let mut line = end_words(status);
+            line.put(b"\n");
+            log.write_all(line.bytes())
+        }
+    }
+}

@@ -1,0 +1,81 @@
+// The files of the file system.
+ghost use Rattle.std.specs.Prelude.{◌≡◌, None};
+ghost use Rattle.std.specs.Option.{option_map};
+ghost use Rattle.host_traits.specs.Folders.{errand_of};
+
+use host_traits::{Folder, FolderCall, FolderError};
+use std::alloc::Global;
+use std::fs;
+use std::io::{self, ErrorKind, Read};
+use std::rt::Files;
+
+/// Files by their paths, with the count of failures and the last call that failed. What the files hold isn't known.
+#[derive(Drop)]
+pub struct Disk<'a, R> {
+    rt: &'a R,
+    faults: u64,
+    last: Option<FolderCall>,
+}
+
+// The bytes of a file, but at most so many.
+fn read_file<R: Files>(rt: &R, alloc: Global, name: &str, most: u64) -> io::Result<Vec<u8>> {
+    let mut file = fs::open(rt, name)?.take(most);
+    let mut bytes = Vec::new(alloc);
+    file.read_to_end(&mut bytes)?;
+    Ok(bytes)
+}
+
+// Writes the bytes beside the file, and moves them into its place.
+fn replace_file<R: Files>(rt: &R, alloc: Global, name: &str, bytes: &[u8]) -> io::Result<()> {
+    let beside = format!(in alloc; "{name}.new")?;
+    fs::write(rt, beside.as_str(), bytes)?;
+    fs::rename(rt, beside.as_str(), name)
+}
+
+impl<'a, R> Disk<'a, R> {
+    pub fn new(rt: &'a R) -> Disk<'a, R> {
+        Disk {
+            rt,
+            faults: 0,
+            last: None,
+        }
+    }
+}
+
+impl<R: Files> Folder for Disk<'_, R> {
+    ghost files = { λ d. None };
+
+    ghost faults = { λ d. d.faults };
+
+    ghost last_failed = { λ d. option_map errand_of d.last };
+
+    fn load(&mut self, alloc: Global, name: &str, max: u64) -> Result<Vec<u8>, FolderError> {
+        let Ok(copy) = String::from_str(alloc, name) else {
+            return Err(FolderError::Memory);
+        };
+        match read_file(self.rt, alloc, name, max + 1) {
+            Ok(bytes) => Ok(bytes),
+            Err(error) if error.kind() == ErrorKind::OutOfMemory => Err(FolderError::Memory),
+            Err(_) => {
+                self.faults = self.faults.saturating_add(1);
+                self.last = Some(FolderCall::Load(copy));
+                Err(FolderError::Failed)
+            }
+        }
+    }
+
+    fn store(&mut self, alloc: Global, name: &str, bytes: &[u8]) -> Result<(), FolderError> {
+        let Ok(copy) = String::from_str(alloc, name) else {
+            return Err(FolderError::Memory);
+        };
+        match replace_file(self.rt, alloc, name, bytes) {
+            Ok(()) => Ok(()),
+            Err(error) if error.kind() == ErrorKind::OutOfMemory => Err(FolderError::Memory),
+            Err(_) => {
+                self.faults = self.faults.saturating_add(1);
+                self.last = Some(FolderCall::Store(copy));
+                Err(FolderError::Failed)
+            }
+        }
+    }
+}
