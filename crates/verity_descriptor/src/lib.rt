@@ -20,9 +20,13 @@ pub struct Descriptor {
 /// The first rule that the bytes break.
 #[derive(Clone, Copy, Debug, PartialEq, Eq)]
 pub enum DescriptorFault {
+    /// Its version is not 1.
     Version { found: u8 },
+    /// Its hash algorithm is not 1, SHA-256.
     Algorithm { found: u8 },
+    /// The binary logarithm of its block size is not 12, 4096 bytes.
     BlockSize { found: u8 },
+    /// It has more than 32 bytes of salt.
     SaltLength { found: u8 },
     /// The first byte that should be zero and is not.
     NotZero { at: u32 },
@@ -128,7 +132,7 @@ fn put(bytes: &mut [u8; 256], at: usize, piece: &[u8])
     all[at..end].copy_from_slice(piece);
 }
 
-/// The one descriptor_bytes of a descriptor.
+/// The 256 bytes of a descriptor.
 pub fn encode(d: &Descriptor) -> [u8; 256]
     ensures { result ≡ descriptor_bytes d.now }
 {

@@ -1,5 +1,0 @@
-use Rattle.guest_cli.proofs.Headline.{play_replays}
-use Rattle.guest_cli.proofs.top.replay.Goals as goal
-
-pub returns-in-Ok-clause-replays : goal.returns-in-Ok-clause-replays
-returns-in-Ok-clause-replays g c = play_replays _ c.args.plan.now c.args.tape.now c.args.entropy.now _ _ _ _ _ c.play.result c.in-Ok.ensures.ok c.play.ensures.played
