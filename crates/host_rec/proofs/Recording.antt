@@ -8,7 +8,7 @@ use Rattle.host_traits.specs.declared.calls.TapeItem.{TapeItem}
 use Rattle.host_traits.specs.declared.calls.TapeItem.TheVariants.{Failed as ItemFailed}
 use Rattle.host_traits.specs.declared.host.HostError.{HostError}
 use Rattle.host_traits.specs.declared.host.HostError.TheVariants.{Failed, Memory}
-use Rattle.host_traits.specs.Told.{Told, Exchanges, Asked, Answered, Refused, Unheard, Rose, heard_size}
+use Rattle.host_traits.specs.Told.{Told, Exchanges, Asked, Answered, Refused, Unheard, heard_size}
 use Rattle.host_traits.proofs.Talking.{answered, refused, unheard}
 use Rattle.host_rec.specs.Recorded.{Kept, Keeps, and, item_of, exchange, exchanges, heard_by, failure, failures, failed_by, last_failed_in, told_with}
 

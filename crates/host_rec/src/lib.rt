@@ -6,5 +6,6 @@ mod kept;
 pub mod recorder;
 #[cfg(test)]
 mod tests;
+mod text;
 
 pub use crate::recorder::Recorder;

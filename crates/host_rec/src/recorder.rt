@@ -7,7 +7,6 @@ ghost use Rattle.host_tape.specs.Tape.{tape_bytes, IsTape};
 ghost use Rattle.host_rec.specs.Recorded.{Keeps, failures, nothing, told_with};
 
 use crate::kept::Records;
-use host_tape::write_tape;
 use host_traits::{Call, Host, HostError, Raw};
 use mg_base::Memory;
 use std::alloc::Global;
@@ -25,11 +24,11 @@ pub struct Recorder<H> {
 }
 
 impl<H> Model for Recorder<H> {
-    ghost use Rattle.host_rec.specs.Recorded.{Recorded, kept_of};
+    ghost use Rattle.host_rec.specs.Recorded.{Recorded};
 
     ghost Value = { Recorded H };
 
-    ghost view = { λ r. record { host = r.host; kept = kept_of r.records.calls.items r.records.items.items } };
+    ghost view = { λ r. record { host = r.host; kept = r.records.kept } };
 }
 
 impl<H: Host> Recorder<H> {
@@ -52,7 +51,17 @@ impl<H: Host> Recorder<H> {
         &self.host
     }
 
-    /// The tape of the calls that were kept: the record of each, in their order.
+    /// The tape of the calls that were kept, lent: the record of each, in their order.
+    pub fn text(&self) -> &[u8]
+        ensures bytes { result.now ≡ tape_bytes self.now.kept.items }
+        // So `read_tape` reads these records again.
+        ensures again { IsTape result.now self.now.kept.items }
+        ensures each { length self.now.kept.calls ≡ length self.now.kept.items }
+    {
+        self.records.text()
+    }
+
+    /// A copy of that tape.
     pub fn tape(&self) -> Result<Vec<u8>, Memory>
         ensures bytes { IfOk result (λ bytes. bytes.items ≡ tape_bytes self.now.kept.items) }
         // So `read_tape` reads these records again.
@@ -60,7 +69,7 @@ impl<H: Host> Recorder<H> {
         ensures each { length self.now.kept.calls ≡ length self.now.kept.items }
     {
         let mut out = Vec::new(self.alloc);
-        write_tape(&self.records.items, &mut out)?;
+        out.extend_from_slice(self.records.text())?;
         Ok(out)
     }
 }
@@ -72,7 +81,7 @@ impl<H: Host> Host for Recorder<H> {
         ensures asked { Asked (BlockSize disk) [] (λ n. Number n) result (told_with (H.told self.old.host) self.old.kept) (told_with (H.told self.new.host) self.new.kept) }
         ensures kept { Keeps (BlockSize disk) (λ n. Number n) result self.old.kept self.new.kept }
     {
-        self.records.reserve()?;
+        self.records.reserve(9)?;
         let answer = self.host.block_size(disk);
         self.records.note_number(Call::BlockSize { disk }, answer);
         answer
@@ -85,7 +94,7 @@ impl<H: Host> Host for Recorder<H> {
         ensures kept { Keeps (BlockWrite disk sector (length bytes.now / 512)) (λ _. Done) result self.old.kept self.new.kept }
     {
         let count = (bytes.len() / 512) as u32;
-        self.records.reserve()?;
+        self.records.reserve(1)?;
         let answer = self.host.block_write(disk, sector, bytes);
         self.records.note_done(
             Call::BlockWrite {
@@ -102,7 +111,7 @@ impl<H: Host> Host for Recorder<H> {
         ensures asked { Asked (BlockSync disk) [] (λ _. Done) result (told_with (H.told self.old.host) self.old.kept) (told_with (H.told self.new.host) self.new.kept) }
         ensures kept { Keeps (BlockSync disk) (λ _. Done) result self.old.kept self.new.kept }
     {
-        self.records.reserve()?;
+        self.records.reserve(1)?;
         let answer = self.host.block_sync(disk);
         self.records.note_done(Call::BlockSync { disk }, answer);
         answer
@@ -115,7 +124,7 @@ impl<H: Host> Host for Recorder<H> {
         ensures kept { Keeps (FileWrite file at (length bytes.now)) (λ _. Done) result self.old.kept self.new.kept }
     {
         let count = bytes.len() as u32;
-        self.records.reserve()?;
+        self.records.reserve(1)?;
         let answer = self.host.file_write(file, at, bytes);
         self.records
             .note_done(Call::FileWrite { file, at, count }, answer);
@@ -133,7 +142,7 @@ impl<H: Host> Host for Recorder<H> {
         ensures asked { Asked (TreeWrite file level index) bytes.now (λ _. Done) result (told_with (H.told self.old.host) self.old.kept) (told_with (H.told self.new.host) self.new.kept) }
         ensures kept { Keeps (TreeWrite file level index) (λ _. Done) result self.old.kept self.new.kept }
     {
-        self.records.reserve()?;
+        self.records.reserve(1)?;
         let answer = self.host.file_tree_write(file, level, index, bytes);
         self.records
             .note_done(Call::TreeWrite { file, level, index }, answer);
@@ -145,7 +154,7 @@ impl<H: Host> Host for Recorder<H> {
         ensures asked { Asked (Resize file size) [] (λ _. Done) result (told_with (H.told self.old.host) self.old.kept) (told_with (H.told self.new.host) self.new.kept) }
         ensures kept { Keeps (Resize file size) (λ _. Done) result self.old.kept self.new.kept }
     {
-        self.records.reserve()?;
+        self.records.reserve(1)?;
         let answer = self.host.file_resize(file, size);
         self.records.note_done(Call::Resize { file, size }, answer);
         answer
@@ -155,7 +164,7 @@ impl<H: Host> Host for Recorder<H> {
         ensures asked { Asked (Create dir file) name.now (λ _. Done) result (told_with (H.told self.old.host) self.old.kept) (told_with (H.told self.new.host) self.new.kept) }
         ensures kept { Keeps (Create dir file) (λ _. Done) result self.old.kept self.new.kept }
     {
-        self.records.reserve()?;
+        self.records.reserve(1)?;
         let answer = self.host.file_create(dir, name, file);
         self.records.note_done(Call::Create { dir, file }, answer);
         answer
@@ -165,7 +174,7 @@ impl<H: Host> Host for Recorder<H> {
         ensures asked { Asked (Mkdir dir file) name.now (λ _. Done) result (told_with (H.told self.old.host) self.old.kept) (told_with (H.told self.new.host) self.new.kept) }
         ensures kept { Keeps (Mkdir dir file) (λ _. Done) result self.old.kept self.new.kept }
     {
-        self.records.reserve()?;
+        self.records.reserve(1)?;
         let answer = self.host.file_mkdir(dir, name, file);
         self.records.note_done(Call::Mkdir { dir, file }, answer);
         answer
@@ -175,7 +184,7 @@ impl<H: Host> Host for Recorder<H> {
         ensures asked { Asked (Delete dir) name.now (λ _. Done) result (told_with (H.told self.old.host) self.old.kept) (told_with (H.told self.new.host) self.new.kept) }
         ensures kept { Keeps (Delete dir) (λ _. Done) result self.old.kept self.new.kept }
     {
-        self.records.reserve()?;
+        self.records.reserve(1)?;
         let answer = self.host.file_delete(dir, name);
         self.records.note_done(Call::Delete { dir }, answer);
         answer
@@ -194,10 +203,7 @@ impl<H: Host> Host for Recorder<H> {
         ensures kept { Keeps (BlockRead disk sector count) (λ _. Bytes raw.new) result self.old.kept self.new.kept }
     {
         raw.clear();
-        let Ok(room) = Vec::with_capacity(self.alloc, 512 * count as usize) else {
-            return Err(HostError::Memory);
-        };
-        self.records.reserve()?;
+        self.records.reserve(5 + 512 * count as usize)?;
         let answer = self.host.block_read(disk, sector, count, raw);
         self.records.note_bytes(
             Call::BlockRead {
@@ -206,7 +212,6 @@ impl<H: Host> Host for Recorder<H> {
                 count,
             },
             answer,
-            room,
             raw,
         );
         answer
@@ -219,13 +224,10 @@ impl<H: Host> Host for Recorder<H> {
         ensures kept { Keeps (FileRead file at want) (λ _. Bytes raw.new) result self.old.kept self.new.kept }
     {
         raw.clear();
-        let Ok(room) = Vec::with_capacity(self.alloc, want as usize) else {
-            return Err(HostError::Memory);
-        };
-        self.records.reserve()?;
+        self.records.reserve(5 + want as usize)?;
         let answer = self.host.file_read(file, at, want, raw);
         self.records
-            .note_bytes(Call::FileRead { file, at, want }, answer, room, raw);
+            .note_bytes(Call::FileRead { file, at, want }, answer, raw);
         answer
     }
 
@@ -241,13 +243,10 @@ impl<H: Host> Host for Recorder<H> {
         ensures kept { Keeps (TreeRead file level index) (λ _. Bytes raw.new) result self.old.kept self.new.kept }
     {
         raw.clear();
-        let Ok(room) = Vec::with_capacity(self.alloc, 4096) else {
-            return Err(HostError::Memory);
-        };
-        self.records.reserve()?;
+        self.records.reserve(5 + 4096)?;
         let answer = self.host.file_tree_read(file, level, index, raw);
         self.records
-            .note_bytes(Call::TreeRead { file, level, index }, answer, room, raw);
+            .note_bytes(Call::TreeRead { file, level, index }, answer, raw);
         answer
     }
 
@@ -257,25 +256,22 @@ impl<H: Host> Host for Recorder<H> {
         ensures kept { Keeps (Descriptor file) (λ _. Bytes raw.new) result self.old.kept self.new.kept }
     {
         raw.clear();
-        let Ok(room) = Vec::with_capacity(self.alloc, 256) else {
-            return Err(HostError::Memory);
-        };
-        self.records.reserve()?;
+        self.records.reserve(5 + 256)?;
         let answer = self.host.file_descriptor(file, raw);
         self.records
-            .note_bytes(Call::Descriptor { file }, answer, room, raw);
+            .note_bytes(Call::Descriptor { file }, answer, raw);
         answer
     }
 
     fn faults(&self) -> u64
         ensures { result ≡ min (failures self.now.kept.items) (2 ^ 64 - 1) }
     {
-        self.records.faults
+        self.records.faults()
     }
 
     fn heard_bytes(&self) -> u64
         ensures { IsHeardSize (told_with (H.told self.now.host) self.now.kept).heard result }
     {
-        self.records.size
+        self.records.size()
     }
 }

@@ -25,6 +25,7 @@ fn writes_what_was_heard(rt: HostRuntime) -> Result<(), Fail> {
     assert_eq!(rt; host.faults(), 2);
     assert_eq!(rt; host.host().faults(), 2);
     assert_eq!(rt; host.heard_bytes(), 1);
+    assert!(rt; host.text() == WRITTEN);
     assert!(rt; host.tape()?.as_slice() == WRITTEN);
     Ok(())
 }
@@ -51,6 +52,7 @@ fn keeps_each_service(rt: HostRuntime) -> Result<(), Fail> {
     assert_eq!(rt; host.file_create(2, b"n", 3), Ok(()));
     assert_eq!(rt; host.file_mkdir(2, b"m", 4), Ok(()));
     assert_eq!(rt; host.file_delete(2, b"n"), Ok(()));
+    assert!(rt; host.text() == EACH);
     assert!(rt; host.tape()?.as_slice() == EACH);
     Ok(())
 }

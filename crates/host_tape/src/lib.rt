@@ -7,7 +7,8 @@ mod reading;
 mod tape;
 mod writing;
 
-pub use crate::places::TapeFault;
+pub use crate::next::Next;
+pub use crate::places::{Place, TapeFault};
 pub use crate::reading::read_tape;
 pub use crate::tape::Tape;
 pub use crate::writing::write_tape;

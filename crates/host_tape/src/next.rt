@@ -1,7 +1,8 @@
-// A record, lent from the text of its tape.
+// A lent record.
 
+/// A record of a tape, with its bytes lent.
 #[derive(Clone, Copy)]
-pub(crate) enum Next<'a> {
+pub enum Next<'a> {
     Failed,
     Done,
     Number(u64),

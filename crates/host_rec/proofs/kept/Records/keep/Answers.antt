@@ -1,17 +1,25 @@
-use Rattle.std.proofs.Common.{◌≡◌, [], ◌∷◌, ◌++◌, arith}
-use Rattle.std.proofs.lemmas.Grind.{common_steps}
-use Rattle.std.proofs.lemmas.List.{length-append}
-use Rattle.host_rec.proofs.Recording.{size-push, failures-push}
+use Rattle.std.proofs.Common.{◌<◌, ◌≤◌, length, refl}
+use Rattle.std.specs.Prelude.{vec_capacity}
+use Rattle.host_traits.specs.declared.calls.TapeItem.{TapeItem}
+use Rattle.host_tape.specs.Next.{item_by}
+use Rattle.host_tape.specs.Tape.{item_bytes}
+use Rattle.host_rec.specs.Noted.{spare_behind}
+use Rattle.host_rec.proofs.Noting.{begun_some, items-push, one_more}
 use Rattle.host_rec.proofs.kept.Records.keep.Goals as goal
 
 pub invariant_of-self : goal.invariant_of-self
 invariant_of-self c =
-    let calls : c.push.new.self.items ≡ c.args.self.now.calls.items ++ c.args.call ∷ [] = grind (arith, common_steps) in
-    let items : c.push-2.new.self.items ≡ c.args.self.now.items.items ++ c.args.item ∷ [] = grind (arith, common_steps) in
-    let even = c.args.self.now.paired in
-    let sizes = size-push c.args.self.now.calls.items c.args.self.now.items.items c.args.call c.args.item even in
-    record {
-      paired = rw (calls, items) (simp length-append (omega (arith, even)));
-      counted = rw (items, c.saturating_add-self-2.ensures) (omega (arith, failures-push c.args.self.now.items.items c.args.item, c.requires.faults, c.args.self.now.counted));
-      sized = rw (calls, items, c.saturating_add-self.ensures) (omega (arith, sizes, c.requires.size, c.args.self.now.sized));
-    }
+    let before = c.self.inside in
+    let item : TapeItem = item_by c.args.next in
+    let put = c.put-place.ensures in
+    let fits : length (item_bytes item) ≤ spare_behind before.text.items (vec_capacity before.text) = rw (← c.self.view_is) at c.requires.spare in
+    let some : 0 < length before.text.items = begun_some before.text.items (vec_capacity before.text) item fits in
+    rw (c.push_reserved.ensures.items, c.push_reserved-2.ensures.items)
+    (one_more before.calls.items before.text.items c.put-place.new.text.items before.places.items before.size before.faults c.args.size c.args.faults _ _ c.args.call c.put-place.result item
+    c.self.invariant some c.requires.is put.text put.says put.inside c.requires.size c.requires.faults c.saturating_add-self-inside.ensures c.saturating_add-self-inside-2.ensures)
+
+pub returns : goal.returns
+returns c =
+    let before = c.self.inside in
+    let put = c.put-place.ensures in
+    rw (← c.self.view_is, c.push_reserved.ensures.items, c.push_reserved-2.ensures.items, items-push before.text.items c.put-place.new.text.items before.places.items c.put-place.result (item_by c.args.next) c.self.invariant.inside put.text put.says) refl
