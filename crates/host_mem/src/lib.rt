@@ -12,6 +12,7 @@ pub mod host;
 mod mem_disk;
 mod mem_file;
 mod names;
+mod page_map;
 mod sparse;
 mod tree_pages;
 mod verity;

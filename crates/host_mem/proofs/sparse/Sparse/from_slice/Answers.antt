@@ -1,4 +1,5 @@
-use Rattle.std.proofs.Common.{◌∙◌, ◌-◌, take, drop, ap, arith}
+use Rattle.std.proofs.Common.{◌≡◌, ◌∙◌, ◌-◌, length, take, drop, ap, arith}
+use Rattle.std.proofs.lemmas.List.{length-take}
 use Rattle.host_traits.specs.Held.{over}
 use Rattle.host_mem.proofs.ByteLists.{over_front}
 use Rattle.host_mem.proofs.sparse.Sparse.from_slice.Goals as goal
@@ -9,7 +10,9 @@ pieces-preserved c =
     let done = c.pieces.done in
     let end = c.min-end.result in
     let chunk = take (end - done) (drop done bytes) in
+    let here : length c.pieces.sparse ≡ done = ap length c.pieces.invariant.front ∙ omega (arith, length-take done bytes) in
     record {
       few = omega arith;
-      front = c.in_ok-write.ensures.ok ∙ ap (λ z. over z done chunk) c.pieces.invariant.front ∙ over_front bytes done end (omega arith) (omega arith);
+      front = c.in_ok-push.ensures.ok ∙ ap (λ n. over c.pieces.sparse n chunk) here ∙ ap (λ z. over z done chunk) c.pieces.invariant.front ∙ over_front bytes done end (omega arith) (omega arith);
+      whole = λ lt. omega (arith, lt, c.pieces.invariant.whole (omega arith));
     }

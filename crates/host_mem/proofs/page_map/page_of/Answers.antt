@@ -1,7 +1,7 @@
 use Rattle.std.proofs.Common.{◌≡◌, ◌∙◌, ℕ, List, Some, None, get_or, ap, sym}
 use Rattle.host_mem.specs.Mem.{at}
 use Rattle.host_mem.proofs.Kept.{zeros_by, there_by}
-use Rattle.host_mem.proofs.sparse.page_of.Goals as goal
+use Rattle.host_mem.proofs.page_map.page_of.Goals as goal
 
 pub returns-in-Some-clause-bytes : goal.returns-in-Some-clause-bytes
 returns-in-Some-clause-bytes c = λ k lt.

@@ -1,7 +1,7 @@
 use Rattle.std.proofs.Common.{◌≤◌, ◌<◌, ◌+◌, ◌*◌, arith}
 use Rattle.host_mem.proofs.Kept.{cut_at}
-use Rattle.host_mem.proofs.sparse.cut.Goals as goal
-use Rattle.host_mem.proofs.sparse.cut.Goals.{then-from-eq0, else-from-eq0}
+use Rattle.host_mem.proofs.page_map.cut.Goals as goal
+use Rattle.host_mem.proofs.page_map.cut.Goals.{then-from-eq0, else-from-eq0}
 
 pub returns : goal.returns
 returns c =

@@ -1,6 +1,7 @@
-use Rattle.std.proofs.Common.{◌≡◌, ◌∙◌, length, sym, ap, arith}
+use Rattle.std.proofs.Common.{◌≡◌, ◌∙◌, ◌++◌, length, sym, ap, arith}
+use Rattle.host_mem.specs.Mem.{bytes_in}
 use Rattle.host_mem.proofs.Kept.{sparse-length, sparse-range}
-use Rattle.host_mem.proofs.sparse.Sparse.copy.Goals as goal
+use Rattle.host_mem.proofs.sparse.Sparse.bytes.Goals as goal
 
 pub append-requires : goal.append-requires
 append-requires c =
@@ -11,4 +12,4 @@ pub returns : goal.returns
 returns c =
     let size : c.self.inside.size ≡ length c.args.self.now = sym (sparse-length c.self.inside.size c.self.inside.pages.entries) ∙ ap length c.self.view_is in
     let range = sparse-range c.self.inside.size c.self.inside.pages.entries c.args.at c.args.count (omega arith) in
-    rw (← c.self.view_is, ← range) c.append.ensures
+    rw (← c.self.view_is, ← range) (c.in_ok-append.ensures ∙ ap (λ z. z ++ bytes_in c.self.inside.pages.entries c.args.at c.args.count) c.in-Ok.ensures.items)

@@ -2,7 +2,7 @@ use Rattle.std.proofs.Common.{◌≡◌, ◌∙◌, ℕ, List, Some, None, Optio
 use Rattle.std.specs.Prelude.{replicate, is_some}
 use Rattle.host_mem.specs.Mem.{at, Puts}
 use Rattle.host_mem.proofs.Kept.{zeros_put}
-use Rattle.host_mem.proofs.sparse.reserve.Goals as goal
+use Rattle.host_mem.proofs.page_map.reserve.Goals as goal
 
 none_of : (o : Option (List ℕ)) → is_some o ≡ false → o ≡ None
 none_of None e = refl

@@ -2,7 +2,7 @@ use Rattle.std.proofs.Common.{◌≡◌, ◌++◌, ◌+◌, length, take, drop, 
 use Rattle.std.specs.Prelude.{IsSome}
 use Rattle.host_mem.specs.Mem.{at, Puts}
 use Rattle.host_mem.proofs.Kept.{piece_put}
-use Rattle.host_mem.proofs.sparse.put_piece.Goals as goal
+use Rattle.host_mem.proofs.page_map.put_piece.Goals as goal
 
 pub returns-in-Some-clause-put : goal.returns-in-Some-clause-put
 returns-in-Some-clause-put c =

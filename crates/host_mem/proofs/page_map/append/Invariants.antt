@@ -1,6 +1,6 @@
 use Rattle.std.proofs.Common.{◌≡◌, ◌≤◌, ◌-◌, ◌++◌}
 use Rattle.host_mem.specs.Mem.{bytes_in}
-use Rattle.host_mem.proofs.sparse.append.Given as goal
+use Rattle.host_mem.proofs.page_map.append.Given as goal
 
 abbrev pub invariant-pieces : goal.invariant-pieces
 invariant-pieces l = record {

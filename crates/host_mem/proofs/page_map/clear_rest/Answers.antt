@@ -2,7 +2,7 @@ use Rattle.std.proofs.Common.{◌≡◌, ◌∙◌, ◌++◌, ◌-◌, take, Som
 use Rattle.std.specs.Prelude.{IsSome, replicate}
 use Rattle.host_mem.specs.Mem.{at, Puts, byte_in}
 use Rattle.host_mem.proofs.Kept.{page_cleared, none_cleared}
-use Rattle.host_mem.proofs.sparse.clear_rest.Goals as goal
+use Rattle.host_mem.proofs.page_map.clear_rest.Goals as goal
 
 pub returns-in-Some : goal.returns-in-Some
 returns-in-Some c =
