@@ -141,11 +141,7 @@ fn store_all<F: Folder>(
     ensures each { length host.now.kept.calls ≡ length host.now.kept.items }
     ensures cause { StoresCause (F.faults folder.old) (F.faults folder.new) (F.last_failed folder.new) result }
 {
-    let tape = match host.tape() {
-        Ok(tape) => tape,
-        Err(_) => return Status::Memory,
-    };
-    match store_file(alloc, folder, tape_out, &tape) {
+    match store_file(alloc, folder, tape_out, host.text()) {
         Ok(()) => {}
         Err(refusal) => return refused(refusal),
     }
