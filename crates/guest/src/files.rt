@@ -5,7 +5,7 @@ ghost use Rattle.host_traits.specs.Folders.{errand_of};
 
 use host_traits::{Folder, FolderCall, FolderError};
 use std::alloc::Global;
-use std::fs;
+use std::fs::{self, OpenFile};
 use std::io::{self, ErrorKind, Read};
 use std::rt::Files;
 
@@ -19,9 +19,10 @@ pub struct Disk<'a, R> {
 
 // The bytes of a file, but at most so many.
 fn read_file<R: Files>(rt: &R, alloc: Global, name: &str, most: u64) -> io::Result<Vec<u8>> {
-    let mut file = fs::open(rt, name)?.take(most);
-    let mut bytes = Vec::new(alloc);
-    file.read_to_end(&mut bytes)?;
+    let file = fs::open(rt, name)?;
+    let size = file.metadata()?.len().min(most);
+    let mut bytes = Vec::with_capacity(alloc, (size as usize).saturating_add(1))?;
+    file.take(most).read_to_end(&mut bytes)?;
     Ok(bytes)
 }
 
