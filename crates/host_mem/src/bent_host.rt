@@ -237,7 +237,10 @@ impl Host for Bent {
         self.bends.faults()
     }
 
-    fn heard_bytes(&self) -> u64 {
+    fn heard_bytes(&self) -> u64
+        ensures heard { IsHeardSize (bent_told self.now).heard result }
+        ensures none { result ≡ 0 }
+    {
         0
     }
 }

@@ -436,7 +436,10 @@ impl Host for MemHost {
         self.tally.faults()
     }
 
-    fn heard_bytes(&self) -> u64 {
+    fn heard_bytes(&self) -> u64
+        ensures heard { IsHeardSize (mem_told self.now).heard result }
+        ensures none { result ≡ 0 }
+    {
         0
     }
 }

@@ -1,4 +1,4 @@
-use Rattle.std.proofs.Common.{◌≡◌, ◌++◌, ◌-◌, length}
+use Rattle.std.proofs.Common.{◌++◌, ◌-◌, length}
 use Rattle.std.specs.Prelude.{replicate}
 use Rattle.host_mem.specs.Mem.{Puts}
 use Rattle.host_mem.proofs.Kept.{page_added}

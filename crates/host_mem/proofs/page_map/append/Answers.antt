@@ -1,4 +1,4 @@
-use Rattle.std.proofs.Common.{◌≡◌, ◌∙◌, ◌++◌, ◌+◌, ap, append_assoc, arith}
+use Rattle.std.proofs.Common.{◌∙◌, ◌++◌, ◌+◌, ap, append_assoc, arith}
 use Rattle.host_mem.specs.Mem.{bytes_in}
 use Rattle.host_mem.proofs.Kept.{bytes_in-more}
 use Rattle.host_mem.proofs.page_map.append.Goals as goal
