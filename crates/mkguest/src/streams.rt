@@ -12,7 +12,10 @@ pub struct Output<W> {
 }
 
 impl<W> Output<W> {
-    pub fn new(stream: W) -> Output<W> {
+    /// No call failed yet.
+    pub fn new(stream: W) -> Output<W>
+        ensures { result.faults ≡ 0 }
+    {
         Output { stream, faults: 0 }
     }
 }
