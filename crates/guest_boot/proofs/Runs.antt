@@ -91,7 +91,7 @@ module _ (a b c : Told) (y : Exchanges) (le : a.faults ≤ b.faults) where
   file_again file digest f h = record { bytes = h.bytes; own = h.own; few = h.few; is = h.is }
 
   file_later : (file : ℕ) (digest : Digest) (why : BootCause) → FileFails file digest why (trace_of y b c) → FileFails file digest why (trace_of y a c)
-  file_later file digest (File (files.Failed faults)) h = failed_later (IsDescriptorCall file) a b c [] y faults le h
+  file_later file digest (File (files.Failed faults)) h = (h.0, failed_later (IsDescriptorCall file) a b c [] y faults le h.1)
   file_later file digest (File (files.Short asked got)) h = file_again file digest _ h
   file_later file digest (File (files.DigestMismatch expected found)) h = file_again file digest _ h
   file_later file digest (File (files.Descriptor fault)) h = file_again file digest _ h

@@ -66,8 +66,8 @@ pub record IsRefused (file : ℕ) (digest : Digest) (t : Trace) (why : RoFault) 
 -- what came of opening a file
 abbrev pub OpenFileOutcome : ℕ → Digest → Result MeasuredFile RoFault → Trace → Type 0
 OpenFileOutcome file digest (Ok f) t = IsOpened file digest t f
-OpenFileOutcome file digest (Err (fault.Failed faults)) t = IsFailed (IsDescriptorCall file) t faults
-OpenFileOutcome file digest (Err fault.Memory) t = t.scarce ≡ true
+OpenFileOutcome file digest (Err (fault.Failed faults)) t = (t.own ≡ []) × IsFailed (IsDescriptorCall file) t faults
+OpenFileOutcome file digest (Err fault.Memory) t = (t.own ≡ []) × (t.scarce ≡ true)
 OpenFileOutcome file digest (Err why) t = IsRefused file digest t why
 
 -- a file was opened by an answer among what was heard
