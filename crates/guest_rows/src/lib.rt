@@ -1,7 +1,9 @@
-//! Runs of the whole guest over memory, against bytes and digests that were worked out elsewhere.
+//! Tests of replays of the whole guest over memory, against bytes and digests that were worked out elsewhere.
 #![tactic(auto)]
 
 #[cfg(test)]
-mod runs;
+mod ends;
 #[cfg(test)]
-mod tests;
+mod reads;
+#[cfg(test)]
+mod trees;
