@@ -1,13 +1,16 @@
 // A session over a host in memory of which one answer is bent.
+ghost use Rattle.std.specs.Prelude.{◌≡◌, [], IfOk};
+ghost use Rattle.guest_plan.specs.Plans.{known};
+ghost use Rattle.guest_plan.specs.Spelling.{IsPlan};
+
+use guest_cli::Entropy;
 use guest_cli::boot::{Machine, boot, first_unbuilt};
 use guest_cli::session::session;
-use guest_cli::{Engine, Entropy};
 use guest_plan::{Plan, read_plan};
 use host_mem::{Bend, Bent, MemHost};
 use host_rec::Recorder;
 use host_traits::{MemSink, MemSource};
 use mg_base::Salt;
-use session_frames::Splitter;
 use std::alloc::Global;
 use std::test::Fail;
 
@@ -23,16 +26,20 @@ fn bent_host(alloc: Global, blob: &[u8], call: u64, bend: Bend) -> Result<Record
     Ok(Recorder::new(alloc, Bent::new(held, bends)))
 }
 
-// The plan of a text in which each line is served.
-fn plan_of(alloc: Global, text: &[u8]) -> Result<Plan, Fail> {
+// The plan of a text.
+fn plan_of(alloc: Global, text: &[u8]) -> Result<Plan, Fail>
+    ensures { IfOk result (λ plan. IsPlan text.now (known plan)) }
+{
     match read_plan(alloc, text) {
         Ok(plan) => Ok(plan),
         Err(_) => Err("plan")?,
     }
 }
 
-// Boots.
-fn boot_of(alloc: Global, text: &[u8], host: &mut Recorder<Bent>) -> Result<Machine, Fail> {
+// A machine for the plan of a text in which each line is served.
+fn boot_of(alloc: Global, text: &[u8], host: &mut Recorder<Bent>) -> Result<Machine, Fail>
+    ensures { IfOk result (λ machine. machine.splitter ≡ record { held = []; at = 0 }) }
+{
     let plan = plan_of(alloc, text)?;
     if first_unbuilt(&plan).is_some() {
         return Err("plan")?;
