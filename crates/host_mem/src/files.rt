@@ -96,8 +96,9 @@ pub(crate) fn write(
     }
 }
 
-/// Cuts the bytes of a file, or adds zeros. It takes no memory.
+/// Cuts the bytes of a file, or adds zeros.
 pub(crate) fn resize(
+    alloc: Global,
     files: &mut BTreeMap<u32, MemFile>,
     file: u32,
     size: u64,
@@ -106,10 +107,10 @@ pub(crate) fn resize(
     ensures { (disks : Entries DiskData) (dirs : Entries NameList) → Does (Resize file size) [] (λ _. Done) result (held_of disks files.old.entries dirs) (held_of disks files.new.entries dirs) }
 {
     match files.get_mut(&file) {
-        Some(held) => {
-            held.resize(size);
-            Ok(())
-        }
+        Some(held) => match held.resize(alloc, size) {
+            Ok(()) => Ok(()),
+            Err(_) => Err(HostError::Memory),
+        },
         None => Err(HostError::Failed),
     }
 }

@@ -158,7 +158,7 @@ impl MemHost {
         ensures count { self.new.count ≡ self.old.count }
         ensures unchanged { OnErr result (self.new ≡ self.old) }
     {
-        let held = match verity(self.alloc, &bytes, salt) {
+        let held = match verity(self.alloc, bytes, salt) {
             Ok(held) => held,
             Err(_) => return Err(Memory),
         };
@@ -386,7 +386,7 @@ impl Host for MemHost {
         if self.tally.begin(call) {
             return Err(HostError::Failed);
         }
-        let answer = files::resize(&mut self.files, file, size);
+        let answer = files::resize(self.alloc, &mut self.files, file, size);
         self.tally.end(call, answer);
         answer
     }

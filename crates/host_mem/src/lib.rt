@@ -3,6 +3,7 @@
 
 pub mod bends;
 pub mod bent_host;
+mod content;
 mod count;
 mod dirs;
 mod disks;

@@ -3,7 +3,7 @@ ghost use Rattle.std.specs.Prelude.{◌≡◌, ◌≤◌, ◌+◌, ◌^◌, List
 ghost use Rattle.host_traits.specs.Held.{over, resized, tree_with};
 ghost use Rattle.host_mem.specs.Mem.{FileData, blank_file, page_in};
 
-use crate::sparse::Sparse;
+use crate::content::Content;
 use crate::tree_pages::TreePages;
 use host_traits::Raw;
 use mg_base::Memory;
@@ -13,7 +13,7 @@ use std::marker::Model;
 /// A file: its bytes, its descriptor, and the tree pages that it has.
 #[derive(Drop)]
 pub(crate) struct MemFile {
-    content: Sparse,
+    content: Content,
     descriptor: Vec<u8>,
     tree: TreePages,
 }
@@ -32,14 +32,14 @@ impl MemFile {
         ensures { result ≡ blank_file }
     {
         MemFile {
-            content: Sparse::new(alloc),
+            content: Content::new(alloc),
             descriptor: Vec::new(alloc),
             tree: TreePages::new(alloc),
         }
     }
 
     /// A file of these parts.
-    pub(crate) fn with(content: Sparse, descriptor: Vec<u8>, tree: TreePages) -> MemFile
+    pub(crate) fn with(content: Content, descriptor: Vec<u8>, tree: TreePages) -> MemFile
         ensures { result ≡ record { bytes = content; descriptor = descriptor.items; pages = tree } }
     {
         MemFile {
@@ -93,11 +93,16 @@ impl MemFile {
         Ok(())
     }
 
-    /// Cuts the bytes, or adds zeros. It takes no memory.
-    pub(crate) fn resize(&mut self, size: u64)
-        ensures { self.new ≡ record self.old { bytes = resized self.old.bytes size } }
+    /// Cuts the bytes, or adds zeros.
+    pub(crate) fn resize(&mut self, alloc: Global, size: u64) -> Result<(), Memory>
+        ensures ok { OnOk result (self.new ≡ record self.old { bytes = resized self.old.bytes size }) }
+        ensures err { OnErr result (self.new ≡ self.old) }
     {
-        self.content.resize(size);
+        match self.content.resize(alloc, size) {
+            Ok(()) => {}
+            Err(_) => return Err(Memory),
+        }
+        Ok(())
     }
 
     /// Reads a tree page; one that isn't there is zeros.

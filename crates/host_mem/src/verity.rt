@@ -4,8 +4,8 @@ ghost use Rattle.sha_tree.specs.Tree.{pages_at, top, tree_pages};
 ghost use Rattle.host_mem.specs.Made.{is_tree_page, verity_file};
 ghost use Rattle.host_mem.specs.Mem.{file_of, page_in, stored_page};
 
+use crate::content::Content;
 use crate::mem_file::MemFile;
-use crate::sparse::Sparse;
 use crate::tree_pages::TreePages;
 use mg_base::{Memory, Salt};
 use sha_tree::{Geometry, build_tree};
@@ -47,11 +47,11 @@ fn tree_of(alloc: Global, stored: &[u8], geometry: &Geometry) -> Result<TreePage
 }
 
 /// The file of these bytes, with the pages of its hash tree and its descriptor.
-pub(crate) fn verity(alloc: Global, bytes: &[u8], salt: Salt) -> Result<MemFile, Memory>
-    requires { length bytes.now ≤ 2 ^ 32 }
-    ensures { IfOk result (λ f. file_of f ≡ verity_file bytes.now salt) }
+pub(crate) fn verity(alloc: Global, bytes: Vec<u8>, salt: Salt) -> Result<MemFile, Memory>
+    requires { length bytes.items ≤ 2 ^ 32 }
+    ensures { IfOk result (λ f. file_of f ≡ verity_file bytes.items salt) }
 {
-    let built = match build_tree(alloc, bytes, salt) {
+    let built = match build_tree(alloc, &bytes, salt) {
         Ok(built) => built,
         Err(_) => return Err(Memory),
     };
@@ -59,12 +59,11 @@ pub(crate) fn verity(alloc: Global, bytes: &[u8], salt: Salt) -> Result<MemFile,
         unreachable!()
     };
     let tree = tree_of(alloc, &built.stored, &geometry)?;
-    let content = Sparse::from_slice(alloc, bytes)?;
     let descriptor = encode(&Descriptor {
         size: built.size,
         root: built.root,
         salt,
     });
     let descriptor = Vec::from_slice(alloc, &descriptor)?;
-    Ok(MemFile::with(content, descriptor, tree))
+    Ok(MemFile::with(Content::whole(bytes), descriptor, tree))
 }
