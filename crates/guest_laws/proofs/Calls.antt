@@ -1,0 +1,51 @@
+-- The calls of a read of a device on a disk.
+use Rattle.std.proofs.Common.{◌≡◌, ℕ, ◌+◌, ◌*◌, ◌/◌, ◌%◌, true, false, List, [], ◌∷◌, Some, refl, sym, subst, inl, inr, ◌∙◌}
+use Rattle.std.specs.Prelude.{◌==◌, if◌then◌else◌, slice_get}
+use Rattle.host_traits.specs.declared.calls.Call.{Call}
+use Rattle.host_traits.specs.declared.calls.Call.TheVariants.{BlockRead}
+use Rattle.host_traits.specs.declared.calls.Said.{Said}
+use Rattle.host_traits.specs.Held.{Held, serve}
+use Rattle.host_traits.specs.Told.{Exchanges, Serves}
+use Rattle.host_traits.specs.Did.{IsIn}
+use Rattle.sha_tree.specs.Tree.{ancestor}
+use Rattle.verity_path.specs.Calls.{call_for, tree_byte}
+use Rattle.verity_path.specs.declared.device.Device.{Device}
+use Rattle.verity_path.specs.declared.walk.Layout.{Layout}
+use Rattle.verity_path.specs.declared.walk.Layout.TheVariants.{Parts}
+use Rattle.guest_rules.specs.Machine.{World, Moment, Turn, ItemRead, Request, request_of, read_of}
+use Rattle.guest_rules.specs.ItemRow.{IsForItem}
+use Rattle.guest_rules.specs.Step.{Step, IsFor}
+use Rattle.guest_laws.specs.Fitting.{IsOfDisk, AreTrue}
+
+-- the call for a page of a device in parts of a disk asks for that disk
+of_disk : (disk first tree count level i : ℕ) → IsOfDisk disk (call_for (Parts disk first tree) count level i)
+of_disk disk first tree count level i =
+    let at : ℕ = tree_byte tree count level i in
+    elim (level == 0) as (λ v. IsOfDisk disk (if v then BlockRead disk (first + 8 * i) 8 else BlockRead disk (at / 512) (if at % 512 == 0 then 8 else 9)))
+    [ true ↦ refl | false ↦ refl ]
+
+same_item : (a b : Device) → Some a ≡ Some b → a ≡ b
+same_item a b e = cc
+
+-- the calls of a read are those for its item
+calls_of : (items : List Device) (request : Request) (r : ItemRead) (it : Device) (call : Call) → request ≡ read_of r → slice_get items r.item ≡ Some it → IsFor items request call → IsForItem it r call
+calls_of items request r it call e at f =
+    let g = subst (λ q. IsFor items q call) e f in
+    subst (λ (z : Device). IsForItem z r call) (same_item g.0 it (sym g.1 ∙ at)) g.2
+
+for_disk : (disk first tree : ℕ) (it : Device) (r : ItemRead) (call : Call) → it.layout ≡ Parts disk first tree → IsForItem it r call → IsOfDisk disk call
+for_disk disk first tree it r call is f =
+    let level = f.path.level in
+    let i = ancestor f.block level in
+    let here : IsOfDisk disk (call_for it.layout it.measure.blocks level i) = subst (λ (l : Layout). IsOfDisk disk (call_for l it.measure.blocks level i)) (sym is) (of_disk disk first tree it.measure.blocks level i) in
+    subst (IsOfDisk disk) (sym f.path.call_is) here
+
+-- exchanges that are each what is held, are what is held one after another
+serves_all : (h : Held) (own : Exchanges) → ((call : Call) (said : Said) → IsIn call said own → serve h call [] ≡ Some (said, h)) → Serves h own h
+serves_all h [] all = refl
+serves_all h (x ∷ own) all = ([], h, all x.0 x.1 (inl refl), serves_all h own (λ call said i. all call said (inr i)))
+
+pub read_serves : (items : List Device) (world : World) (old : Moment) (turn : Turn) (new : Moment) (h : Held) (r : ItemRead) (it : Device) (disk first tree : ℕ)
+    → Step items world old turn new → request_of turn.frame ≡ read_of r → slice_get items r.item ≡ Some it → it.layout ≡ Parts disk first tree → AreTrue h disk turn.own → Serves h turn.own h
+read_serves items world old turn new h r it disk first tree step request at layout heard =
+    serves_all h turn.own (λ call said i. heard call said i (for_disk disk first tree it r call layout (calls_of items _ r it call request at (step.calls call said i))))

@@ -1,0 +1,7 @@
+pub mod Heard
+pub mod Heads
+pub mod Fits
+pub mod Lines
+pub mod Items
+pub mod Calls
+pub mod Served

@@ -1,0 +1,85 @@
+-- What a disk holds for an `apk` line, and what that says of the reads of its device.
+use Rattle.std.specs.Prelude.{◌≡◌, ◌+◌, ◌-◌, ◌*◌, ◌<◌, ℕ, All, Bool, true, false, List, [], length, take, drop, filter, slice_get, Option, Some, Ok}
+use Rattle.mg_base.specs.declared.values.Span.{Span}
+use Rattle.host_traits.specs.declared.calls.Call.{Call}
+use Rattle.host_traits.specs.declared.calls.Call.TheVariants.{BlockSize, BlockRead}
+use Rattle.host_traits.specs.declared.calls.Said.{Said}
+use Rattle.host_traits.specs.Did.{IsIn}
+use Rattle.host_traits.specs.Held.{Held, Disk, serve}
+use Rattle.host_traits.specs.Told.{Exchanges, Rose}
+use Rattle.sha_tree.specs.declared.measure.Measure.{Measure}
+use Rattle.sha_tree.specs.Tree.{stored_tree}
+use Rattle.verity_path.specs.declared.device.Device.{Device}
+use Rattle.gpt.specs.declared.values.Table.{Table}
+use Rattle.gpt.specs.Grammar.{IsGpt}
+use Rattle.idsig_v4.specs.declared.head.Head.{Head}
+use Rattle.idsig_v4.specs.Grammar.{IsIdsig}
+use Rattle.apk_verity.specs.Opening.{measure_of}
+use Rattle.guest_plan.specs.declared.plan.How.{How}
+use Rattle.guest_plan.specs.declared.plan.PlanLine.{PlanLine}
+use Rattle.guest_plan.specs.declared.plan.PlanLine.TheVariants as line
+use Rattle.ro_file.specs.Files.{MeasuredFile}
+use Rattle.guest_boot.specs.Finding.{parts_in}
+use Rattle.guest_boot.specs.Booting.{AreServed, measure_in}
+use Rattle.guest_rules.specs.Machine.{World, Moment, Turn, ItemRead, request_of, read_of}
+use Rattle.guest_rules.specs.Step.{Step}
+use Rattle.guest_rules.specs.Run.{IsWorld}
+use Rattle.guest_rules.specs.Faithful.{IsDefined}
+use Rattle.guest_cli.specs.Booted.{Opens}
+
+-- ---- what a disk holds
+
+-- What is held has a content at an `apk` line: its disk has whole sectors; its partition table is in its grammar and has both
+-- parts; the APK's part begins with the content's blocks; the idsig's part begins with an idsig of the content's salt, root and
+-- stored tree, by which the line's measure is this one. A disk's bytes are below 256.
+pub record HoldsApk (h : Held) (disk : ℕ) (apk idsig : List ℕ) (how : How) (m : Measure) (content : List ℕ) : Type 0 where
+  pub on : Disk
+  pub there : h.disk disk ≡ Some on
+  pub sectors : ℕ
+  pub whole : length on.bytes ≡ 512 * sectors
+  pub are_bytes : All (λ b. b < 256) on.bytes
+  pub table : Table
+  pub is_table : IsGpt (take 20480 on.bytes) (drop (512 * (sectors - 40)) on.bytes) sectors table
+  pub first : Span
+  pub second : Span
+  pub parts : parts_in table apk idsig ≡ Ok (first, second)
+  pub content_is : take (4096 * m.blocks) (drop (512 * first.first) on.bytes) ≡ content
+  pub head : Head
+  pub is_idsig : IsIdsig (take (512 * second.sectors) (drop (512 * second.first) on.bytes)) head
+  pub measure : measure_of first (measure_in how) head ≡ Ok m
+  pub tree : take head.tree_len (drop (512 * second.first + head.tree_at) on.bytes) ≡ stored_tree content m.salt
+
+-- ---- what was heard of it
+
+-- a call asks for this disk
+abbrev pub IsOfDisk : ℕ → Call → Type 0
+IsOfDisk disk (BlockSize of) = of ≡ disk
+IsOfDisk disk (BlockRead of sector count) = of ≡ disk
+IsOfDisk disk other = ⊥
+
+-- each of these answers for the disk is what is held
+abbrev pub AreTrue : Held → ℕ → Exchanges → Type 0
+AreTrue h disk own = (call : Call) (said : Said) → IsIn call said own → IsOfDisk disk call → serve h call [] ≡ Some (said, h)
+
+-- ---- the line of an item
+
+abbrev pub makes_item : PlanLine → Bool
+makes_item (line.Blob file m) = true
+makes_item (line.Apk disk apk idsig how) = true
+makes_item other = false
+
+abbrev pub item_line : List PlanLine → ℕ → Option PlanLine
+item_line lines k = slice_get (filter makes_item lines) k
+
+-- A read of the device of an `apk` line of a plan in the grammar, in a world that meets the premises, and where what is held has
+-- the item's content at the line: if the answers of boot for the line's disk and those of the read are what is held, and the
+-- count of failures doesn't rise in the read, the read has its defined reply. So a reply 5 comes only where the count rose, or
+-- where one of these answers, those of boot among them, wasn't what the disk holds.
+abbrev pub ApkReadsAreServed : Type 0
+ApkReadsAreServed = (lines : List PlanLine) (booted : Exchanges) (items : List Device) (files : List MeasuredFile) (world : World) (old : Moment) (turn : Turn) (new : Moment)
+    (h : Held) (r : ItemRead) (content : List ℕ) (disk : ℕ) (apk idsig : List ℕ) (how : How) (m : Measure)
+    → Opens lines booted items files → AreServed lines → Step items world old turn new → request_of turn.frame ≡ read_of r
+    → item_line lines r.item ≡ Some (line.Apk disk apk idsig how) → world r.item ≡ Some content
+    → IsWorld items world new.heard → HoldsApk h disk apk idsig how m content
+    → AreTrue h disk booted → AreTrue h disk turn.own → (Rose old.faults new.faults → ⊥)
+    → IsDefined r content new.scarce turn.sent turn.cause
