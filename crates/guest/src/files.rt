@@ -34,7 +34,11 @@ fn replace_file<R: Files>(rt: &R, alloc: Global, name: &str, bytes: &[u8]) -> io
 }
 
 impl<'a, R> Disk<'a, R> {
-    pub fn new(rt: &'a R) -> Disk<'a, R> {
+    /// No call failed yet.
+    pub fn new(rt: &'a R) -> Disk<'a, R>
+        ensures faults { result.faults ≡ 0 }
+        ensures last { result.last ≡ None }
+    {
         Disk {
             rt,
             faults: 0,

@@ -26,7 +26,10 @@ pub struct Input<R> {
 }
 
 impl<R> Input<R> {
-    pub fn new(stream: R) -> Input<R> {
+    /// No call failed yet.
+    pub fn new(stream: R) -> Input<R>
+        ensures { result.faults ≡ 0 }
+    {
         Input { stream, faults: 0 }
     }
 }
@@ -55,7 +58,10 @@ pub struct Output<W> {
 }
 
 impl<W> Output<W> {
-    pub fn new(stream: W) -> Output<W> {
+    /// No call failed yet.
+    pub fn new(stream: W) -> Output<W>
+        ensures { result.faults ≡ 0 }
+    {
         Output { stream, faults: 0 }
     }
 }
