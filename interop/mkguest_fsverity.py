@@ -3,7 +3,8 @@ from lib.frame import check, content, program, run, same, tool, write
 
 SALTS = ("-", "ab", "00112233445566778899aabbccddeeff", "ff" * 32)
 
-SIZES = (1, 4095, 4096, 4097, 128 * 4096, 128 * 4096 + 1, 300 * 4096)
+# Around a page, around the blocks of one tree page, and around a part of a file.
+SIZES = (1, 4095, 4096, 4097, 128 * 4096, 128 * 4096 + 1, 256 * 4096 - 1, 256 * 4096, 256 * 4096 + 1, 300 * 4096, 512 * 4096)
 
 
 def compared(ours, theirs, size, salt):

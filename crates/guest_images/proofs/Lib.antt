@@ -8,3 +8,4 @@ pub mod Described
 pub mod Placing
 pub mod Naming
 pub mod Storing
+pub mod Fronts

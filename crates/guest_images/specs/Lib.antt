@@ -3,6 +3,7 @@ pub mod Words
 pub mod Asked
 pub mod Loads
 pub mod Measuring
+pub mod Feeding
 pub mod Parts
 pub mod Composing
 pub mod Composed

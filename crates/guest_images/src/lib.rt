@@ -2,6 +2,7 @@
 #![tactic(auto)]
 
 pub mod composing;
+pub mod feeding;
 pub mod lines;
 pub mod loading;
 pub mod making;

@@ -2,26 +2,28 @@
 ghost use Rattle.std.specs.Prelude.{◌≡◌, ◌≤◌, ◌<◌, ◌+◌, ◌^◌, ℕ, List, [], length, IfOk, IfErr, OnOk};
 ghost use Rattle.host_traits.specs.Told.{Rose};
 ghost use Rattle.sha_tree.specs.Tree.{block_count, root};
+ghost use Rattle.guest_images.specs.Feeding.{IsTree};
 ghost use Rattle.guest_images.specs.Loads.{FileCause};
 ghost use Rattle.std.specs.declared.option.Option.{Option};
 ghost use Rattle.guest_images.specs.Measuring.{IsIdsigFor, Measures, Signs, idsig_for, measure_lines, measured_lines};
 
+use crate::feeding::tree_of;
 use crate::lines::Line;
-use crate::loading::{load, store};
+use crate::loading::store;
 use crate::status::{Status, UnfitKind};
 use host_traits::{Folder, Sink};
 use idsig_v4::write_idsig;
 use mg_base::{Digest, Memory, Salt};
-use sha_tree::build_tree;
+use sha_tree::Tree;
 use std::alloc::Global;
 use verity_descriptor::{Descriptor, file_digest};
 
 // How many blocks so many bytes have.
-fn blocks_of(bytes: &[u8]) -> u64
-    requires { length bytes.now ≤ 2 ^ 30 }
-    ensures { result ≡ block_count (length bytes.now) }
+fn blocks_of(size: u64) -> u64
+    requires { size ≤ 2 ^ 30 }
+    ensures { result ≡ block_count size }
 {
-    (bytes.len() as u64).div_ceil(4096)
+    size.div_ceil(4096)
 }
 
 // The lines of a measure.
@@ -42,21 +44,17 @@ fn lines_of(blocks: u64, salt: &Salt, root: &Digest, digest: &Digest) -> Line
     line
 }
 
-// The lines of a content.
-fn measured(alloc: Global, content: &[u8], salt: &Salt) -> Result<Line, Memory>
-    requires { length content.now ≤ 2 ^ 30 }
-    ensures { IfOk result (λ line. line ≡ measure_lines content.now salt.now) }
+// The lines of a tree.
+fn measured(tree: &Tree, salt: &Salt) -> Line
+    requires { tree.now.size ≤ 2 ^ 30 }
+    ensures { (content : List ℕ) → IsTree content salt.now tree.now → result ≡ measure_lines content salt.now }
 {
-    let tree = match build_tree(alloc, content, *salt) {
-        Ok(tree) => tree,
-        Err(_) => return Err(Memory),
-    };
     let digest = file_digest(&Descriptor {
         size: tree.size,
         root: tree.root,
         salt: *salt,
     });
-    Ok(lines_of(blocks_of(content), salt, &tree.root, &digest))
+    lines_of(blocks_of(tree.size), salt, &tree.root, &digest)
 }
 
 /// Prints a file's measure and digest.
@@ -72,32 +70,25 @@ pub(crate) fn measure_file<F: Folder, L: Sink>(
     ensures write { result ≡ Status.WriteFault → Rose (L.faults log.old) (L.faults log.new) }
     ensures log { L.faults log.old ≤ L.faults log.new }
 {
-    let mut loaded = 0;
-    let content = match load(alloc, folder, file, &mut loaded) {
-        Ok(content) => content,
+    let tree = match tree_of(alloc, folder, file, salt) {
+        Ok(tree) => tree,
         Err(status) => return status,
     };
-    let line = match measured(alloc, &content, &salt) {
-        Ok(line) => line,
-        Err(_) => return Status::Memory,
-    };
+    let line = measured(&tree, &salt);
     match log.write_all(line.bytes()) {
         Ok(()) => Status::Done,
         Err(_) => Status::WriteFault,
     }
 }
 
-// The idsig of a content of two blocks or more.
-fn signed(alloc: Global, content: &[u8], salt: &Salt) -> Result<Vec<u8>, Memory>
-    requires few { length content.now ≤ 2 ^ 30 }
-    requires enough { 2 ≤ block_count (length content.now) }
-    ensures value { IfOk result (λ v. v.items ≡ idsig_for content.now salt.now) }
-    ensures grammar { OnOk result (IsIdsigFor content.now salt.now) }
+// The idsig of a tree over two blocks or more.
+fn signed(alloc: Global, tree: &Tree, salt: &Salt) -> Result<Vec<u8>, Memory>
+    requires few { tree.now.size ≤ 2 ^ 30 }
+    requires enough { 2 ≤ block_count tree.now.size }
+    requires tree { (content : List ℕ) × IsTree content salt.now tree.now }
+    ensures value { (content : List ℕ) → IsTree content salt.now tree.now → IfOk result (λ v. v.items ≡ idsig_for content salt.now) }
+    ensures grammar { (content : List ℕ) → IsTree content salt.now tree.now → OnOk result (IsIdsigFor content salt.now) }
 {
-    let tree = match build_tree(alloc, content, *salt) {
-        Ok(tree) => tree,
-        Err(_) => return Err(Memory),
-    };
     let mut out = Vec::new(alloc);
     match write_idsig(salt, &tree.root, &[], &tree.stored, &mut out) {
         Ok(()) => Ok(out),
@@ -117,17 +108,16 @@ pub(crate) fn sign_file<F: Folder>(
     ensures file { FileCause (F.faults folder.old) (F.faults folder.new) (F.last_failed folder.new) result }
     ensures never { result ≡ Status.WriteFault → ⊥ }
 {
-    let mut loaded = 0;
-    let content = match load(alloc, folder, file, &mut loaded) {
-        Ok(content) => content,
+    let tree = match tree_of(alloc, folder, file, salt) {
+        Ok(tree) => tree,
         Err(status) => return status,
     };
-    if blocks_of(&content) < 2 {
+    if blocks_of(tree.size) < 2 {
         return Status::Unfit {
             kind: UnfitKind::TooFewBlocks,
         };
     }
-    match signed(alloc, &content, &salt) {
+    match signed(alloc, &tree, &salt) {
         Ok(bytes) => store(alloc, folder, out, &bytes),
         Err(_) => Status::Memory,
     }

@@ -1,5 +1,5 @@
 -- What a folder holds and gives, and what it tells of its failures.
-use Rattle.std.specs.Prelude.{◌≡◌, ◌≤◌, ◌+◌, ◌⊎◌, Bool, ℕ, nat_eq, if◌then◌else◌, List, take, string_bytes, Option, Some, None, Result, Ok, Err}
+use Rattle.std.specs.Prelude.{◌≡◌, ◌≤◌, ◌+◌, ◌⊎◌, Bool, ℕ, nat_eq, if◌then◌else◌, List, take, drop, string_bytes, Option, Some, None, Result, Ok, Err}
 use Rattle.std.specs.Cmp.Lexicographic.{pointwise}
 use Rattle.std.specs.declared.vec.Vec.{Vec}
 use Rattle.std.specs.declared.alloc.Global.{Global}
@@ -39,6 +39,12 @@ abbrev pub Loaded : Option Files → List ℕ → ℕ → Result (Vec ℕ Global
 Loaded None name max r = Unit {0}
 Loaded (Some files) name max (Ok bytes) = (content : List ℕ) × (files name ≡ Some content) × (bytes.items ≡ take (max + 1) content)
 Loaded (Some files) name max (Err _) = Unit {0}
+
+-- what was loaded is the file's part from this place on, cut behind so many bytes
+abbrev pub PartLoaded : Option Files → List ℕ → ℕ → ℕ → Result (Vec ℕ Global) FolderError → Type 0
+PartLoaded None name at max r = Unit {0}
+PartLoaded (Some files) name at max (Ok bytes) = (content : List ℕ) × (files name ≡ Some content) × (bytes.items ≡ take max (drop at content))
+PartLoaded (Some files) name at max (Err _) = Unit {0}
 
 -- what was stored is there; after an error it may be, and nothing else changed
 abbrev pub Stored : Option Files → Option Files → List ℕ → List ℕ → Result (Unit {0}) FolderError → Type 0

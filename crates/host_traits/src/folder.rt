@@ -1,7 +1,7 @@
 // Files by name.
-ghost use Rattle.std.specs.Prelude.{◌≡◌, ◌≤◌, ◌<◌, ◌+◌, ◌^◌, List, ℕ};
+ghost use Rattle.std.specs.Prelude.{◌≡◌, ◌≤◌, ◌<◌, ◌+◌, ◌^◌, List, ℕ, IfOk, vec_len};
 ghost use Rattle.std.specs.declared.option.Option.{Option};
-ghost use Rattle.host_traits.specs.Folders.{Errand, load_of, store_of, Files, Loaded, Stored, HasErrand};
+ghost use Rattle.host_traits.specs.Folders.{Errand, load_of, store_of, Files, Loaded, PartLoaded, Stored, HasErrand};
 
 use std::alloc::Global;
 
@@ -37,6 +37,34 @@ pub trait Folder {
         ensures files { files self.new ≡ files self.old }
         ensures loaded { Loaded (files self.old) name.now max result }
         ensures cause { HasErrand (load_of name.now) (faults self.old) (faults self.new) (last_failed self.old) (last_failed self.new) result };
+
+    /// The bytes of a file from `at` on, but at most `max`: fewer say that the file ends there, none that it has no byte at `at`.
+    /// It fails for a name that isn't there, and changes no file. A folder whose files are large may do better than to load what
+    /// stands before.
+    fn load_part(
+        &mut self,
+        alloc: Global,
+        name: &str,
+        at: u64,
+        max: u64,
+    ) -> Result<Vec<u8>, FolderError>
+        requires { at + max < 2 ^ 63 }
+        ensures files { files self.new ≡ files self.old }
+        ensures loaded { PartLoaded (files self.old) name.now at max result }
+        ensures few { IfOk result (λ part. vec_len part ≤ max) }
+        ensures cause { HasErrand (load_of name.now) (faults self.old) (faults self.new) (last_failed self.old) (last_failed self.new) result }
+    {
+        let front = match self.load(alloc, name, at + max) {
+            Ok(front) => front,
+            Err(error) => return Err(error),
+        };
+        let from = at.min(front.len() as u64);
+        let end = (at + max).min(front.len() as u64);
+        match Vec::from_slice(alloc, &front[from as usize..end as usize]) {
+            Ok(part) => Ok(part),
+            Err(_) => Err(FolderError::Memory),
+        }
+    }
 
     /// Puts a file there, or other bytes into the one of that name. After an error it is as before or holds the new bytes.
     fn store(&mut self, alloc: Global, name: &str, bytes: &[u8]) -> Result<(), FolderError>

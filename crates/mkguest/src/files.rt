@@ -1,12 +1,12 @@
 // The files of the file system.
-ghost use Rattle.std.specs.Prelude.{◌≡◌, None};
+ghost use Rattle.std.specs.Prelude.{◌≡◌, ◌≤◌, None, Ok, IfOk, vec_len};
 ghost use Rattle.std.specs.Option.{option_map};
-ghost use Rattle.host_traits.specs.Folders.{errand_of};
+ghost use Rattle.host_traits.specs.Folders.{HasErrand, errand_of};
 
 use host_traits::{Folder, FolderCall, FolderError};
 use std::alloc::Global;
 use std::fs::{self, OpenFile};
-use std::io::{self, ErrorKind, Read};
+use std::io::{self, ErrorKind, Read, Seek, SeekFrom};
 use std::rt::Files;
 
 /// Files by their paths, with the count of failures and the last call that failed. What the files hold isn't known.
@@ -24,6 +24,18 @@ fn read_file<R: Files>(rt: &R, alloc: Global, name: &str, most: u64) -> io::Resu
     let mut bytes = Vec::with_capacity(alloc, (size as usize).saturating_add(1))?;
     file.take(most).read_to_end(&mut bytes)?;
     Ok(bytes)
+}
+
+// The bytes of a file from a place on, but at most so many.
+fn read_part<R: Files>(rt: &R, alloc: Global, name: &str, at: u64, most: u64) -> io::Result<Vec<u8>>
+    ensures { IfOk result (λ part. vec_len part ≤ most) }
+{
+    let mut file = fs::open(rt, name)?;
+    file.seek(SeekFrom::Start(at))?;
+    let mut part = Vec::with_capacity(alloc, (most as usize).saturating_add(1))?;
+    file.take(most).read_to_end(&mut part)?;
+    part.truncate(most as usize);
+    Ok(part)
 }
 
 // Writes the bytes beside the file, and moves them into its place.
@@ -45,6 +57,22 @@ impl<'a, R> Disk<'a, R> {
             last: None,
         }
     }
+
+    // What a call answers that ended so: want of memory is no failure, all else is one.
+    fn answer<T>(&mut self, call: FolderCall, ended: io::Result<T>) -> Result<T, FolderError>
+        ensures value { IfOk result (λ done. ended ≡ Ok done) }
+        ensures cause { HasErrand (errand_of call) self.old.faults self.new.faults (option_map errand_of self.old.last) (option_map errand_of self.new.last) result }
+    {
+        match ended {
+            Ok(done) => Ok(done),
+            Err(error) if error.kind() == ErrorKind::OutOfMemory => Err(FolderError::Memory),
+            Err(_) => {
+                self.faults = self.faults.saturating_add(1);
+                self.last = Some(call);
+                Err(FolderError::Failed)
+            }
+        }
+    }
 }
 
 impl<R: Files> Folder for Disk<'_, R> {
@@ -58,29 +86,29 @@ impl<R: Files> Folder for Disk<'_, R> {
         let Ok(copy) = String::from_str(alloc, name) else {
             return Err(FolderError::Memory);
         };
-        match read_file(self.rt, alloc, name, max + 1) {
-            Ok(bytes) => Ok(bytes),
-            Err(error) if error.kind() == ErrorKind::OutOfMemory => Err(FolderError::Memory),
-            Err(_) => {
-                self.faults = self.faults.saturating_add(1);
-                self.last = Some(FolderCall::Load(copy));
-                Err(FolderError::Failed)
-            }
-        }
+        let bytes = read_file(self.rt, alloc, name, max + 1);
+        self.answer(FolderCall::Load(copy), bytes)
+    }
+
+    fn load_part(
+        &mut self,
+        alloc: Global,
+        name: &str,
+        at: u64,
+        max: u64,
+    ) -> Result<Vec<u8>, FolderError> {
+        let Ok(copy) = String::from_str(alloc, name) else {
+            return Err(FolderError::Memory);
+        };
+        let part = read_part(self.rt, alloc, name, at, max);
+        self.answer(FolderCall::Load(copy), part)
     }
 
     fn store(&mut self, alloc: Global, name: &str, bytes: &[u8]) -> Result<(), FolderError> {
         let Ok(copy) = String::from_str(alloc, name) else {
             return Err(FolderError::Memory);
         };
-        match replace_file(self.rt, alloc, name, bytes) {
-            Ok(()) => Ok(()),
-            Err(error) if error.kind() == ErrorKind::OutOfMemory => Err(FolderError::Memory),
-            Err(_) => {
-                self.faults = self.faults.saturating_add(1);
-                self.last = Some(FolderCall::Store(copy));
-                Err(FolderError::Failed)
-            }
-        }
+        let stored = replace_file(self.rt, alloc, name, bytes);
+        self.answer(FolderCall::Store(copy), stored)
     }
 }

@@ -38,6 +38,16 @@ pub(crate) fn salted(salt: &Salt) -> Sha256
     hasher
 }
 
+// The hash of the 4096 bytes of a page that stand in a slice.
+pub(crate) fn hash_block(salt: &Salt, block: &[u8]) -> Digest
+    requires { length block.now ≡ 4096 }
+    ensures { result.0 ≡ page_hash salt.now block.now }
+{
+    let mut hasher = salted(salt);
+    hasher.update(block);
+    Digest(hasher.finalize())
+}
+
 /// The hash of a page: SHA-256 (FIPS 180-4) of the salt, padded with zeros to a multiple of 64 bytes, and of the page's
 /// 4096 bytes. No salt adds nothing. It takes no memory.
 pub fn hash_page(salt: &Salt, page: &Page) -> Digest

@@ -1,4 +1,4 @@
-use Rattle.std.proofs.Common.{◌≡◌, ◌<◌, ◌≤◌, length, arith, sym, ap, Some, ◌∙◌, get_or}
+use Rattle.std.proofs.Common.{◌≡◌, arith, sym, ap, ◌∙◌}
 use Rattle.host_traits.proofs.Places.{found_there, found_not}
 use Rattle.host_traits.specs.Mem.{place_in}
 use Rattle.host_traits.proofs.mem_folder.MemFolder.get.Goals as goal

@@ -1,4 +1,4 @@
-use Rattle.std.proofs.Common.{◌≡◌, ℕ, Bool, true, false, not, ◌||◌, leb, refl, ◌<◌, ◌≤◌, length, arith, sym, ap, ◌∙◌}
+use Rattle.std.proofs.Common.{◌≡◌, ℕ, Bool, true, false, not, ◌||◌, leb, refl, ◌<◌, length, arith, ap, ◌∙◌}
 use Rattle.std.proofs.lemmas.Bool.{leb-false}
 use Rattle.host_traits.proofs.Places.{found_there}
 use Rattle.host_traits.specs.Mem.{place_in}
