@@ -5,3 +5,4 @@ pub mod Lines
 pub mod Items
 pub mod Calls
 pub mod Served
+pub mod Sat

@@ -58,7 +58,7 @@ get_left [] ys k x e = absurd cc
 get_left (y ∷ xs) ys zero x e = e
 get_left (y ∷ xs) ys (suc k) x e = get_left xs ys k x e
 
-get_last : (xs : List Device) (d : Device) (n : ℕ) → n ≡ length xs → slice_get (xs ++ d ∷ []) n ≡ Some d
+pub get_last : (xs : List Device) (d : Device) (n : ℕ) → n ≡ length xs → slice_get (xs ++ d ∷ []) n ≡ Some d
 get_last [] d zero e = refl
 get_last [] d (suc n) e = absurd (omega (arith, e))
 get_last (x ∷ xs) d zero e = absurd (omega (arith, e))
@@ -71,7 +71,7 @@ line_keeps s mid (line.Apk d a i how) own k it b e = subst (λ (z : Booted). sli
 line_keeps s mid (line.File name file digest) own k it b e = subst (λ (z : Booted). slice_get z.items k ≡ Some it) (sym b.new_is) e
 line_keeps s mid other own k it b e = absurd b
 
-keeps : (lines : List PlanLine) (s new : Booted) (own : Exchanges) (k : ℕ) (it : Device) → Boots s lines own new → slice_get s.items k ≡ Some it → slice_get new.items k ≡ Some it
+pub keeps : (lines : List PlanLine) (s new : Booted) (own : Exchanges) (k : ℕ) (it : Device) → Boots s lines own new → slice_get s.items k ≡ Some it → slice_get new.items k ≡ Some it
 keeps [] s new own k it b e = subst (λ (z : Booted). slice_get z.items k ≡ Some it) (sym b.1) e
 keeps (l ∷ lines) s new own k it b e = keeps lines b.2 new b.1 k it b.5 (line_keeps s b.2 l b.0 k it b.4 e)
 

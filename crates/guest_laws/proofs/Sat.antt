@@ -1,0 +1,226 @@
+-- A session in which no call failed.
+use Rattle.std.proofs.Common.{◌≡◌, ◌≤◌, ◌+◌, ◌-◌, ◌∙◌, ℕ, zero, suc, min, Bool, true, List, [], ◌∷◌, ◌++◌, length, Option, Some, None, refl, ap, sym, subst, inl, inr, ⊎_elim, append_assoc, append-nil, arith}
+use Rattle.std.specs.Prelude.{slice_get, flat_map}
+use Rattle.std.specs.List.{AllByRecursion}
+use Rattle.std.proofs.lemmas.List.{length-append}
+use Rattle.host_traits.specs.declared.calls.Call.{Call}
+use Rattle.host_traits.specs.declared.calls.Call.TheVariants.{BlockSize, BlockRead, Descriptor}
+use Rattle.host_traits.specs.declared.calls.Said.{Said}
+use Rattle.host_traits.specs.declared.calls.TapeItem.{TapeItem}
+use Rattle.host_traits.specs.Held.{Held, serve, found}
+use Rattle.host_traits.specs.Told.{Told, Exchanges, Serves, HeldAfter, Rose}
+use Rattle.host_traits.specs.Did.{IsIn}
+use Rattle.host_rec.specs.Recorded.{failures}
+use Rattle.sha_tree.specs.declared.measure.Measure.{Measure}
+use Rattle.sha_tree.specs.Tree.{ancestor}
+use Rattle.verity_path.specs.declared.device.Device.{Device}
+use Rattle.verity_path.specs.declared.walk.Layout.{Layout}
+use Rattle.verity_path.proofs.Walking.{piece_left}
+use Rattle.guest_plan.specs.declared.plan.PlanLine.{PlanLine}
+use Rattle.guest_plan.specs.declared.plan.PlanLine.TheVariants as line
+use Rattle.guest_boot.specs.Booting.{AreServed, Booted, Boots, LineBoots, IsForLine, device_on, nothing}
+use Rattle.guest_boot.proofs.Makes.{device_is_item}
+use Rattle.guest_rules.specs.Machine.{World, Moment, Turn, Request, IsItem, request_of, read_of, unbuilt, moment}
+use Rattle.guest_rules.specs.Step.{Step, IsFor}
+use Rattle.guest_rules.specs.Run.{Run, IsRunHashed, IsWorld}
+use Rattle.guest_rules.specs.Faithful.{HoldsAt, HoldsDevice, IsDefined}
+use Rattle.guest_rules.proofs.Holding.{IsReading, pair_is, when_is, reads_keep}
+use Rattle.guest_rules.proofs.Devices.{page_reads}
+use Rattle.guest_rules.proofs.Serving.{all_served}
+use Rattle.guest_plan.proofs.Whole.{plan_takes}
+use Rattle.guest_cli.specs.Booted.{BootsOver}
+use Rattle.guest_cli.specs.Serve.{before, Recorded}
+use Rattle.guest_cli.proofs.Booting.{plan_served}
+use Rattle.guest_laws.specs.Fitting.{item_line}
+use Rattle.guest_laws.specs.Sessions.{HoldsLine, HoldsWorld, IsServedIn, SessionsAreServed}
+use Rattle.guest_laws.proofs.Fits.{true_table, boots_held}
+use Rattle.guest_laws.proofs.Items.{served_line, blocks_in, item_is}
+use Rattle.guest_laws.proofs.Lines.{knows_none, at_line, same_line, get_last, keeps}
+
+-- ---- the calls of boot change nothing that is held
+
+data IsBootCall : Call → Type 0 where
+  of_size : (disk : ℕ) → IsBootCall (BlockSize disk)
+  of_sectors : (disk sector count : ℕ) → IsBootCall (BlockRead disk sector count)
+  of_descriptor : (file : ℕ) → IsBootCall (Descriptor file)
+
+found_keeps : {A : Type 0} (o : Option A) (f : A → Option (Said × Held)) (h k : Held) (said : Said) → ((a : A) → f a ≡ Some (said, k) → k ≡ h) → found o f ≡ Some (said, k) → k ≡ h
+found_keeps None f h k said all e = absurd cc
+found_keeps (Some a) f h k said all e = all a e
+
+call_keeps : (h k : Held) (call : Call) (given : List ℕ) (said : Said) → IsBootCall call → serve h call given ≡ Some (said, k) → k ≡ h
+unfolding serve
+call_keeps h k call given said (of_size disk) e = found_keeps (h.disk disk) _ h k said (λ d is. sym (pair_is _ (said, k) is).1) e
+call_keeps h k call given said (of_sectors disk sector count) e =
+    found_keeps (h.disk disk) _ h k said (λ d is. sym (pair_is _ (said, k) (when_is _ _ (said, k) is).1).1) e
+call_keeps h k call given said (of_descriptor file) e = found_keeps (h.file file) _ h k said (λ f is. sym (pair_is _ (said, k) is).1) e
+
+-- nor does it matter what they give
+call_bare : (h : Held) (call : Call) (given : List ℕ) (said : Said) → IsBootCall call → serve h call given ≡ Some (said, h) → serve h call [] ≡ Some (said, h)
+unfolding serve
+call_bare h call given said (of_size disk) e = e
+call_bare h call given said (of_sectors disk sector count) e = e
+call_bare h call given said (of_descriptor file) e = e
+
+same_said : (p q : Call × Said) → p ≡ q → (p.0 ≡ q.0) × (p.1 ≡ q.1)
+same_said p q e = (ap (λ x. x.0) e, ap (λ x. x.1) e)
+
+abbrev AreHeld : Held → Exchanges → Type 0
+AreHeld h own = (call : Call) (said : Said) → IsIn call said own → serve h call [] ≡ Some (said, h)
+
+boot_held : (own : Exchanges) (h k : Held) → Serves h own k → ((call : Call) (said : Said) → IsIn call said own → IsBootCall call) → (k ≡ h) × AreHeld h own
+boot_held [] h k s calls = (s, λ call said i. absurd i)
+boot_held (x ∷ own) h k s calls =
+    let same = call_keeps h s.1 x.0 s.0 x.1 (calls x.0 x.1 (inl refl)) s.2 in
+    let one : serve h x.0 [] ≡ Some (x.1, h) = call_bare h x.0 s.0 x.1 (calls x.0 x.1 (inl refl)) (subst (λ z. serve h x.0 s.0 ≡ Some (x.1, z)) same s.2) in
+    let rest = boot_held own h k (subst (λ z. Serves z own k) same s.3) (λ call said i. calls call said (inr i)) in (
+      rest.0,
+      λ call said i. elim i [
+        | inl e ↦ rw ((same_said (call, said) x e).0, (same_said (call, said) x e).1) one
+        | inr j ↦ rest.1 call said j
+      ],
+    )
+
+boot_call : (l : PlanLine) (call : Call) → IsForLine l call → IsBootCall call
+boot_call (line.Apk disk apk idsig how) call (inl (inl e)) = subst IsBootCall (sym e) (of_size disk)
+boot_call (line.Apk disk apk idsig how) call (inl (inr (inl e))) = subst IsBootCall (sym e) (of_sectors disk 0 40)
+boot_call (line.Apk disk apk idsig how) call (inl (inr (inr t))) = subst IsBootCall (sym t.2) (of_sectors disk (t.0 - 40) 40)
+boot_call (line.Apk disk apk idsig how) call (inr p) = subst IsBootCall (sym p.1) (of_sectors disk p.0.first (min p.0.sectors 136))
+boot_call (line.File name file digest) call e = subst IsBootCall (sym e) (of_descriptor file)
+boot_call other call e = absurd e
+
+-- ---- a line's item is held
+
+-- the device of a `blob` line
+blob_line : (file : ℕ) (m : Measure) (lines : List PlanLine) (s new : Booted) (own : Exchanges) (k n : ℕ) → Boots s lines own new → item_line lines k ≡ Some (line.Blob file m) → n ≡ length s.items + k
+    → slice_get new.items n ≡ Some (device_on file m)
+blob_line file m [] s new own k n b is e = absurd cc
+blob_line file m (line.Blob f w ∷ lines) s new own zero n b is e =
+    let mine : LineBoots s (line.Blob file m) b.0 b.2 = subst (λ (l : PlanLine). LineBoots s l b.0 b.2) (same_line (line.Blob f w) (line.Blob file m) is) b.4 in
+    let made : slice_get b.2.items n ≡ Some (device_on file m) = subst (λ (z : Booted). slice_get z.items n ≡ Some (device_on file m)) (sym mine.1) (get_last s.items (device_on file m) n (omega (arith, e))) in
+    keeps lines b.2 new b.1 n (device_on file m) b.5 made
+blob_line file m (line.Blob f w ∷ lines) s new own (suc k) n b is e =
+    let more : length b.2.items ≡ length s.items + 1 = ap (λ (z : Booted). length z.items) b.4.1 ∙ length-append s.items _ in
+    blob_line file m lines b.2 new b.1 k n b.5 is (omega (arith, e, more))
+blob_line file m (line.Apk d a i w ∷ lines) s new own zero n b is e = absurd cc
+blob_line file m (line.Apk d a i w ∷ lines) s new own (suc k) n b is e =
+    let more : length b.2.items ≡ length s.items + 1 = ap (λ (z : Booted). length z.items) b.4.new_is ∙ length-append s.items _ in
+    blob_line file m lines b.2 new b.1 k n b.5 is (omega (arith, e, more))
+blob_line file m (line.File name f digest ∷ lines) s new own k n b is e =
+    let more : length b.2.items ≡ length s.items = ap (λ (z : Booted). length z.items) b.4.new_is in
+    blob_line file m lines b.2 new b.1 k n b.5 is (omega (arith, e, more))
+blob_line file m (other ∷ lines) s new own k n b is e = absurd b.4
+
+-- an item, and what is held at its places
+record IsKept (h : Held) (items : List Device) (k : ℕ) (content : List ℕ) : Type 0 where
+  it : Device
+  at : slice_get items k ≡ Some it
+  item : IsItem it
+  holds : HoldsDevice h it content
+
+module _ (lines : List PlanLine) (h : Held) (world : World) (items : List Device) (booted heard : Exchanges) (served : AreServed lines) (new : Booted) (boots : Boots nothing lines booted new) (are : new.items ≡ items)
+    (true_to : AreHeld h booted) (w : IsWorld items world heard) where
+  line_kept : (l : PlanLine) (k : ℕ) (content : List ℕ) → item_line lines k ≡ Some l → world k ≡ Some content → HoldsLine h l content → IsKept h items k content
+  line_kept (line.Blob file m) k content at is holds =
+      let found = blob_line file m lines nothing new booted k k boots at (omega arith) in
+      let said = served_line lines k (line.Blob file m) served at in
+      let i = device_is_item file m said.1 in
+      record {
+        it = device_on file m;
+        at = subst (λ (z : List Device). slice_get z k ≡ Some (device_on file m)) are found;
+        item = record { least = i.least; most = i.most; suits = i.suits };
+        holds = holds;
+      }
+  line_kept (line.Apk disk apk idsig how) k content at is (m, holds) =
+      let found = at_line h disk holds.table (true_table h disk apk idsig how m content holds) apk idsig how lines nothing new booted k k boots (knows_none disk holds.table) (λ call said i of. true_to call said i) at (omega arith) in
+      let it : Device = found.boots.device in
+      let there : slice_get items k ≡ Some it = subst (λ (z : List Device). slice_get z k ≡ Some it) are found.is in
+      let held = boots_held h disk apk idsig how m content holds found.old found.new found.own found.boots found.known found.heard in
+      let said = served_line lines k (line.Apk disk apk idsig how) served at in
+      record {
+        it = it;
+        at = there;
+        item = item_is h disk it m content held (blocks_in holds.first how holds.head m said.3 holds.measure) (w.measured k it content there is);
+        holds = subst (λ (l : Layout). HoldsAt h l it.measure content) (sym held.layout) held.holds;
+      }
+  line_kept other k content at is holds = absurd holds
+
+-- ---- a run over what is held
+
+-- what is held after some exchanges, and after more
+serves_cut : (xs ys : Exchanges) (h k : Held) → Serves h (xs ++ ys) k → (mid : Held) × Serves h xs mid × Serves mid ys k
+serves_cut [] ys h k s = (h, refl, s)
+serves_cut (x ∷ xs) ys h k s = let rest = serves_cut xs ys s.1 k s.3 in (rest.0, (s.0, s.1, s.2, rest.1), rest.2)
+
+reads : (items : List Device) (request : Request) (call : Call) → IsFor items request call → IsReading call
+reads items (read_of r) call f =
+    let g = f.2 in
+    subst IsReading (sym g.path.call_is) (page_reads f.0.layout f.0.measure.blocks g.path.level (ancestor g.block g.path.level))
+reads items unbuilt call f = absurd f
+
+no_rise : (a b : ℕ) → b ≤ 0 → Rose a b → ⊥
+no_rise a b none rose = omega (arith, none, rose)
+
+module _ (items : List Device) (world : World) where
+  world_less : (xs ys : Exchanges) → IsWorld items world (xs ++ ys) → IsWorld items world xs
+  world_less xs ys w = record {
+    measured = w.measured;
+    no_clash = λ x y hx hy. w.no_clash x y (more x hx) (more y hy);
+  } where
+    more : (x : List ℕ) → IsRunHashed items world xs x → IsRunHashed items world (xs ++ ys) x
+    more x e = ⊎_elim (λ a. inl (a.0, a.1, a.2, a.3, piece_left xs ys a.3 a.4, a.5)) (λ b. inr b) e
+
+  run_heard : (old : Moment) (turns : List Turn) (new : Moment) → Run items world old turns new → (more : Exchanges) × (new.heard ≡ old.heard ++ more)
+  run_heard old [] new e = ([], ap (λ (m : Moment). m.heard) (sym e) ∙ sym (append-nil old.heard))
+  run_heard old (turn ∷ turns) new r =
+      let rest = run_heard r.0 turns new r.3 in
+      (turn.own ++ rest.0, rest.1 ∙ ap (λ (x : Exchanges). x ++ rest.0) r.2.heard ∙ append_assoc old.heard turn.own rest.0)
+
+  run_counts : (old : Moment) (turns : List Turn) (new : Moment) → Run items world old turns new → old.faults ≤ new.faults
+  run_counts old [] new e = subst (λ (m : Moment). old.faults ≤ m.faults) e (omega arith)
+  run_counts old (turn ∷ turns) new r = let rest = run_counts r.0 turns new r.3 in let one = r.2.counts in omega (arith, rest, one)
+
+  module _ (lines : List PlanLine) (h : Held) (kept : (k : ℕ) (l : PlanLine) (content : List ℕ) → item_line lines k ≡ Some l → world k ≡ Some content → IsKept h items k content) where
+    run_served : (turns : List Turn) (old new : Moment) (k : Held) → Run items world old turns new → Serves h (flat_map (λ t. t.own) turns) k → IsWorld items world new.heard → new.faults ≤ 0 → old.scarce ≡ true
+        → AllByRecursion (IsServedIn lines world) turns
+    run_served [] old new k run s w none scarce = tt
+    run_served (turn ∷ turns) old new k run s w none scarce =
+        let mid : Moment = run.0 in
+        let step : Step items world old turn mid = run.2 in
+        let cut = serves_cut turn.own (flat_map (λ t. t.own) turns) h k s in
+        let same = (reads_keep turn.own h cut.0 cut.1 (λ call said i. reads items (request_of turn.frame) call (step.calls call said i))).0 in
+        let later = run_heard mid turns new run.3 in
+        let here : IsWorld items world mid.heard = world_less mid.heard later.0 (subst (λ (x : Exchanges). IsWorld items world x) later.1 w) in
+        let low : mid.faults ≤ 0 = let c = run_counts mid turns new run.3 in omega (arith, c, none) in
+        let wants : mid.scarce ≡ true = step.scarce ∙ scarce in (
+          λ r l content request at is.
+              let d = kept r.item l content at is in
+              subst (λ (b : Bool). IsDefined r content b turn.sent turn.cause) wants
+              (all_served items world old turn mid h cut.0 r d.it content step request d.at d.item is here cut.1 d.holds (no_rise old.faults mid.faults low)).0,
+          run_served turns mid new k run.3 (subst (λ z. Serves z (flat_map (λ t. t.own) turns) k) same cut.2) w none wants,
+        )
+
+-- what is held after exchanges, where it was told before
+held_after : (o p : Option Held) (h : Held) (xs : Exchanges) → o ≡ Some h → HeldAfter o xs p → (k : Held) × (p ≡ Some k) × Serves h xs k
+held_after o p h xs is after = subst (λ (z : Option Held). HeldAfter z xs p) is after
+
+module _ (lines : List PlanLine) (h : Held) (mid : Told) (booted : Exchanges) (items : List Device) (entropy : List ℕ) (calls : List Call) (records : List TapeItem) (finish : Told) (turns : List Turn) (world : World) where
+  turns_served : AreServed lines → BootsOver lines (before h) mid booted items → Recorded items entropy booted mid calls records finish turns → failures records ≡ 0
+      → IsWorld items world (booted ++ flat_map (λ t. t.own) turns) → HoldsWorld h lines world → AllByRecursion (IsServedIn lines world) turns
+  turns_served served over r calm w holds =
+      let opens = over.opens in
+      let told = held_after (Some h) mid.held h booted refl over.talked.held in
+      let boot = boot_held booted h told.0 told.2 (λ call said i. let f = over.calls call said i in boot_call f.line call f.for) in
+      let mid_held : mid.held ≡ Some h = told.1 ∙ ap (λ (z : Held). Some z) boot.0 in
+      let after = held_after mid.held finish.held h (flat_map (λ t. t.own) turns) mid_held r.talked.held in
+      let none : finish.faults ≤ 0 = let f = r.faults in omega (arith, f, calm) in
+      let all : Exchanges = booted ++ flat_map (λ t. t.own) turns in
+      let kept : (k : ℕ) (l : PlanLine) (content : List ℕ) → item_line lines k ≡ Some l → world k ≡ Some content → IsKept h items k content = λ k l content at is.
+      line_kept lines h world items booted all served (record { tables = opens.tables; items = items; files = over.files }) opens.boots refl boot.1 w l k content at is (holds k l content at is) in
+      run_served items world lines h kept turns (moment (record { entropy = entropy }) mid booted) (moment r.state finish all) after.0 (r.run world w) after.2 w none over.talked.scarce
+
+pub sessions_served : SessionsAreServed
+sessions_served files plan store entropy old new ended s turns world r calm w holds =
+    let planned = s.made.planned in
+    let served = plan_served planned.text planned.plan (plan_takes planned.text planned.plan planned.is) in
+    turns_served planned.plan.lines s.made.stock.held s.mid s.booted s.items s.bytes s.calls s.records s.finish turns world served s.boots r calm w holds
