@@ -1,7 +1,7 @@
 // The files of the file system.
-ghost use Rattle.std.specs.Prelude.{◌≡◌, None};
+ghost use Rattle.std.specs.Prelude.{◌≡◌, None, Ok, IfOk};
 ghost use Rattle.std.specs.Option.{option_map};
-ghost use Rattle.host_traits.specs.Folders.{errand_of};
+ghost use Rattle.host_traits.specs.Folders.{HasErrand, errand_of};
 
 use host_traits::{Folder, FolderCall, FolderError};
 use std::alloc::Global;
@@ -45,6 +45,22 @@ impl<'a, R> Disk<'a, R> {
             last: None,
         }
     }
+
+    // What a call answers that ended so: want of memory is no failure, all else is one.
+    fn answer<T>(&mut self, call: FolderCall, ended: io::Result<T>) -> Result<T, FolderError>
+        ensures value { IfOk result (λ done. ended ≡ Ok done) }
+        ensures cause { HasErrand (errand_of call) self.old.faults self.new.faults (option_map errand_of self.old.last) (option_map errand_of self.new.last) result }
+    {
+        match ended {
+            Ok(done) => Ok(done),
+            Err(error) if error.kind() == ErrorKind::OutOfMemory => Err(FolderError::Memory),
+            Err(_) => {
+                self.faults = self.faults.saturating_add(1);
+                self.last = Some(call);
+                Err(FolderError::Failed)
+            }
+        }
+    }
 }
 
 impl<R: Files> Folder for Disk<'_, R> {
@@ -58,29 +74,15 @@ impl<R: Files> Folder for Disk<'_, R> {
         let Ok(copy) = String::from_str(alloc, name) else {
             return Err(FolderError::Memory);
         };
-        match read_file(self.rt, alloc, name, max + 1) {
-            Ok(bytes) => Ok(bytes),
-            Err(error) if error.kind() == ErrorKind::OutOfMemory => Err(FolderError::Memory),
-            Err(_) => {
-                self.faults = self.faults.saturating_add(1);
-                self.last = Some(FolderCall::Load(copy));
-                Err(FolderError::Failed)
-            }
-        }
+        let bytes = read_file(self.rt, alloc, name, max + 1);
+        self.answer(FolderCall::Load(copy), bytes)
     }
 
     fn store(&mut self, alloc: Global, name: &str, bytes: &[u8]) -> Result<(), FolderError> {
         let Ok(copy) = String::from_str(alloc, name) else {
             return Err(FolderError::Memory);
         };
-        match replace_file(self.rt, alloc, name, bytes) {
-            Ok(()) => Ok(()),
-            Err(error) if error.kind() == ErrorKind::OutOfMemory => Err(FolderError::Memory),
-            Err(_) => {
-                self.faults = self.faults.saturating_add(1);
-                self.last = Some(FolderCall::Store(copy));
-                Err(FolderError::Failed)
-            }
-        }
+        let stored = replace_file(self.rt, alloc, name, bytes);
+        self.answer(FolderCall::Store(copy), stored)
     }
 }

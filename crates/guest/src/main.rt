@@ -1,5 +1,6 @@
-//! The program: `guest replay PLAN TAPE ENTROPY` answers the request frames of its standard input from the records of a tape,
-//! with the replies to its standard output and the log to its standard error, and ends with the status's number.
+//! The program: it answers the request frames of its standard input, with the replies to its standard output and the log to its
+//! standard error, and ends with the status's number. `guest replay PLAN TAPE ENTROPY` has the host's answers from the records of
+//! a tape, `guest serve PLAN STORE ENTROPY TAPE_OUT` from a host in memory that a store list makes, and stores their tape.
 #![tactic(auto)]
 
 mod files;
