@@ -14,7 +14,6 @@ use Rattle.host_rec.specs.Recorded.{failures}
 use Rattle.sha_tree.specs.declared.measure.Measure.{Measure}
 use Rattle.sha_tree.specs.Tree.{ancestor}
 use Rattle.verity_path.specs.declared.device.Device.{Device}
-use Rattle.verity_path.specs.declared.walk.Layout.{Layout}
 use Rattle.verity_path.proofs.Walking.{piece_left}
 use Rattle.guest_plan.specs.declared.plan.PlanLine.{PlanLine}
 use Rattle.guest_plan.specs.declared.plan.PlanLine.TheVariants as line
@@ -23,7 +22,7 @@ use Rattle.guest_boot.proofs.Makes.{device_is_item}
 use Rattle.guest_rules.specs.Machine.{World, Moment, Turn, Request, IsItem, request_of, read_of, unbuilt, moment}
 use Rattle.guest_rules.specs.Step.{Step, IsFor}
 use Rattle.guest_rules.specs.Run.{Run, IsRunHashed, IsWorld}
-use Rattle.guest_rules.specs.Faithful.{HoldsAt, HoldsDevice, IsDefined}
+use Rattle.guest_rules.specs.Faithful.{HoldsDevice, IsDefined}
 use Rattle.guest_rules.proofs.Holding.{IsReading, pair_is, when_is, reads_keep}
 use Rattle.guest_rules.proofs.Devices.{page_reads}
 use Rattle.guest_rules.proofs.Serving.{all_served}
@@ -33,9 +32,9 @@ use Rattle.guest_cli.specs.Serve.{before, Recorded}
 use Rattle.guest_cli.proofs.Booting.{plan_served}
 use Rattle.guest_laws.specs.Fitting.{item_line}
 use Rattle.guest_laws.specs.Sessions.{HoldsLine, HoldsWorld, IsServedIn, SessionsAreServed}
-use Rattle.guest_laws.proofs.Fits.{true_table, boots_held}
-use Rattle.guest_laws.proofs.Items.{served_line, blocks_in, item_is}
-use Rattle.guest_laws.proofs.Lines.{knows_none, at_line, same_line, get_last, keeps}
+use Rattle.guest_laws.proofs.Items.{served_line}
+use Rattle.guest_laws.proofs.Lines.{same_line, get_last, keeps}
+use Rattle.guest_laws.proofs.Served.{apk_kept}
 
 -- ---- the calls of boot change nothing that is held
 
@@ -118,31 +117,20 @@ record IsKept (h : Held) (items : List Device) (k : ℕ) (content : List ℕ) : 
   item : IsItem it
   holds : HoldsDevice h it content
 
-module _ (lines : List PlanLine) (h : Held) (world : World) (items : List Device) (booted heard : Exchanges) (served : AreServed lines) (new : Booted) (boots : Boots nothing lines booted new) (are : new.items ≡ items)
-    (true_to : AreHeld h booted) (w : IsWorld items world heard) where
-  line_kept : (l : PlanLine) (k : ℕ) (content : List ℕ) → item_line lines k ≡ Some l → world k ≡ Some content → HoldsLine h l content → IsKept h items k content
+module _ (lines : List PlanLine) (h : Held) (world : World) (booted heard : Exchanges) (served : AreServed lines) (new : Booted) (boots : Boots nothing lines booted new) (true_to : AreHeld h booted) (w : IsWorld new.items world heard) where
+  line_kept : (l : PlanLine) (k : ℕ) (content : List ℕ) → item_line lines k ≡ Some l → world k ≡ Some content → HoldsLine h l content → IsKept h new.items k content
   line_kept (line.Blob file m) k content at is holds =
-      let found = blob_line file m lines nothing new booted k k boots at (omega arith) in
       let said = served_line lines k (line.Blob file m) served at in
       let i = device_is_item file m said.1 in
       record {
         it = device_on file m;
-        at = subst (λ (z : List Device). slice_get z k ≡ Some (device_on file m)) are found;
+        at = blob_line file m lines nothing new booted k k boots at (omega arith);
         item = record { least = i.least; most = i.most; suits = i.suits };
         holds = holds;
       }
   line_kept (line.Apk disk apk idsig how) k content at is (m, holds) =
-      let found = at_line h disk holds.table (true_table h disk apk idsig how m content holds) apk idsig how lines nothing new booted k k boots (knows_none disk holds.table) (λ call said i of. true_to call said i) at (omega arith) in
-      let it : Device = found.boots.device in
-      let there : slice_get items k ≡ Some it = subst (λ (z : List Device). slice_get z k ≡ Some it) are found.is in
-      let held = boots_held h disk apk idsig how m content holds found.old found.new found.own found.boots found.known found.heard in
-      let said = served_line lines k (line.Apk disk apk idsig how) served at in
-      record {
-        it = it;
-        at = there;
-        item = item_is h disk it m content held (blocks_in holds.first how holds.head m said.3 holds.measure) (w.measured k it content there is);
-        holds = subst (λ (l : Layout). HoldsAt h l it.measure content) (sym held.layout) held.holds;
-      }
+      let a = apk_kept lines booted heard new world h k content disk apk idsig how m boots served at is w holds (λ call said i of. true_to call said i) in
+      record { it = a.it; at = a.at; item = a.item; holds = a.holds }
   line_kept other k content at is holds = absurd holds
 
 -- ---- a run over what is held
@@ -216,7 +204,7 @@ module _ (lines : List PlanLine) (h : Held) (mid : Told) (booted : Exchanges) (i
       let none : finish.faults ≤ 0 = let f = r.faults in omega (arith, f, calm) in
       let all : Exchanges = booted ++ flat_map (λ t. t.own) turns in
       let kept : (k : ℕ) (l : PlanLine) (content : List ℕ) → item_line lines k ≡ Some l → world k ≡ Some content → IsKept h items k content = λ k l content at is.
-      line_kept lines h world items booted all served (record { tables = opens.tables; items = items; files = over.files }) opens.boots refl boot.1 w l k content at is (holds k l content at is) in
+      line_kept lines h world booted all served (record { tables = opens.tables; items = items; files = over.files }) opens.boots boot.1 w l k content at is (holds k l content at is) in
       run_served items world lines h kept turns (moment (record { entropy = entropy }) mid booted) (moment r.state finish all) after.0 (r.run world w) after.2 w none over.talked.scarce
 
 pub sessions_served : SessionsAreServed
