@@ -12,6 +12,7 @@ use Rattle.host_traits.specs.declared.calls.Said.{Said}
 use Rattle.host_traits.specs.declared.calls.Said.TheVariants.{Bytes}
 use Rattle.host_traits.specs.Told.{Told, Answered, Exchanges, kind_bytes}
 use Rattle.host_traits.specs.Did.{Trace, Did, IsIn, IsShort}
+use Rattle.host_traits.proofs.Doing.{did_answered}
 use Rattle.sha_tree.specs.declared.measure.Measure.{Measure}
 use Rattle.verity_path.specs.declared.device.Device.{Device}
 use Rattle.idsig_v4.specs.declared.head.Head.{Head}
@@ -94,13 +95,9 @@ outcome_of o (Err Memory) t i h = absurd h
 
 made : (o : Opening) (r : Result Device ApkFault) (raw : List ℕ) (old new : Told) → Answered (idsig_call o) [] (Bytes raw) old new
     → length raw ≤ 512 * count_of o → r ≡ opened o raw → Did (IsIdsigCall o) 1 old new (OpenOutcome o r)
-made o r raw old new a few is = record {
-  own = (idsig_call o, Bytes raw) ∷ [];
-  talked = a.talked;
-  calls = λ call said i. elim i [ inl p ↦ record { call_is = ap (λ (x : Call × Said). x.0) p } | inr n ↦ absurd n ];
-  few = omega arith;
-  outcome = outcome_of o r _ (record { bytes = raw; own = refl; few = few; is = is }) (subst (λ (x : Result Device ApkFault). IsHeard o raw x) (sym is) (heard_opened o raw));
-}
+made o r raw old new a few is =
+    did_answered (IsIdsigCall o) (idsig_call o) (Bytes raw) old new (OpenOutcome o r) (record { call_is = refl }) a
+    (outcome_of o r _ (record { bytes = raw; own = refl; few = few; is = is }) (subst (λ (x : Result Device ApkFault). IsHeard o raw x) (sym is) (heard_opened o raw)))
 
 -- the call was answered by these bytes
 pub answered : (o : Opening) (count : ℕ) → count ≡ count_of o → (r : Result Device ApkFault) (raw : List ℕ) (old new : Told)

@@ -7,7 +7,7 @@ use Rattle.std.proofs.lemmas.List.Elements.{All-head, All-tail}
 use Rattle.mg_base.specs.declared.values.Span.{Span}
 use Rattle.host_traits.specs.declared.calls.Call.{Call}
 use Rattle.host_traits.specs.declared.calls.Said.TheVariants.{Number, Bytes}
-use Rattle.host_traits.specs.Told.{Told, Exchanges}
+use Rattle.host_traits.specs.Told.{Told, Exchanges, heard_of}
 use Rattle.host_traits.specs.Did.{Did, Trace, trace_of}
 use Rattle.host_traits.proofs.Doing.{did_none, did_so, did_then, failed_later, failed_so}
 use Rattle.gpt.specs.declared.faults.GptFault.{GptFault}
@@ -54,8 +54,8 @@ module _ (disk : ℕ) where
   size_fails (Short asked got) t h = absurd h
   size_fails Memory t h = tt
 
-  pub no_size : (a b : Told) (why : BootCause) → Did (IsCall (size_call disk)) 0 a b (SizeOutcome disk (Err why)) → Did (IsTableCall disk) 2 a b (TableOutcome disk (Err why))
-  no_size a b why d = did_so _ _ 0 2 a b _ _ d (λ call is. inl is) (omega arith) (size_fails why)
+  pub no_size : (a b : Told) (why : BootCause) → Did (IsCall (size_call disk)) 1 a b (SizeOutcome disk (Err why)) → Did (IsTableCall disk) 3 a b (TableOutcome disk (Err why))
+  no_size a b why d = did_so _ _ 1 3 a b _ _ d (λ call is. inl is) (omega arith) (size_fails why)
 
   -- the first 40 sectors were heard, after the number of sectors
   abbrev pub Headed : ℕ → List ℕ → Trace → Type 0
@@ -79,13 +79,13 @@ module _ (disk : ℕ) where
     head_fails (Short asked got) x y le p q = (q.asked_is, inl (record { sectors = n; head = q.bytes; own_is = joined x y _ _ p.0 q.own_is; sized = p.1; got_is = q.got_is; short = q.short }))
     head_fails Memory x y le p q = tt
 
-    pub no_head : (why : BootCause) → Did (IsCall (size_call disk)) 0 a b (SizeOutcome disk (Ok n)) → Did (IsCall (head_call disk)) 1 b c (EndFails (head_call disk) why)
-        → Did (IsTableCall disk) 2 a c (TableOutcome disk (Err why))
-    no_head why d e = did_then (IsTableCall disk) 1 1 a b c _ _ _ (did_so _ _ 0 1 a b _ _ d (λ call is. inl is) (omega arith) (λ t p. p)) (did_so _ _ 1 1 b c _ _ e (λ call is. inr (inl is)) (omega arith) (λ t p. p)) (head_fails why)
+    pub no_head : (why : BootCause) → Did (IsCall (size_call disk)) 1 a b (SizeOutcome disk (Ok n)) → Did (IsCall (head_call disk)) 1 b c (EndFails (head_call disk) why)
+        → Did (IsTableCall disk) 3 a c (TableOutcome disk (Err why))
+    no_head why d e = did_then (IsTableCall disk) 2 1 a b c _ _ _ (did_so _ _ 1 2 a b _ _ d (λ call is. inl is) (omega arith) (λ t p. p)) (did_so _ _ 1 1 b c _ _ e (λ call is. inr (inl is)) (omega arith) (λ t p. p)) (head_fails why)
 
-    pub headed : (head : List ℕ) → Did (IsCall (size_call disk)) 0 a b (SizeOutcome disk (Ok n)) → Did (IsCall (head_call disk)) 1 b c (λ t. (t.own ≡ (head_call disk, Bytes head) ∷ []) × (length head ≡ 20480))
-        → Did (IsTableCall disk) 1 a c (Headed n head)
-    headed head d e = did_then (IsTableCall disk) 0 1 a b c _ _ _ (did_so _ _ 0 0 a b _ _ d (λ call is. inl is) (omega arith) (λ t p. p)) (did_so _ _ 1 1 b c _ _ e (λ call is. inr (inl is)) (omega arith) (λ t p. p))
+    pub headed : (head : List ℕ) → Did (IsCall (size_call disk)) 1 a b (SizeOutcome disk (Ok n)) → Did (IsCall (head_call disk)) 1 b c (λ t. (t.own ≡ (head_call disk, Bytes head) ∷ []) × (length head ≡ 20480))
+        → Did (IsTableCall disk) 2 a c (Headed n head)
+    headed head d e = did_then (IsTableCall disk) 1 1 a b c _ _ _ (did_so _ _ 1 1 a b _ _ d (λ call is. inl is) (omega arith) (λ t p. p)) (did_so _ _ 1 1 b c _ _ e (λ call is. inr (inl is)) (omega arith) (λ t p. p))
         (λ x y le p q. (joined x y _ _ p.0 q.0, p.1, q.1))
 
   module _ (n : ℕ) (head : List ℕ) (a b c : Told) where
@@ -100,24 +100,24 @@ module _ (disk : ℕ) where
     tail_fails (Short asked got) x y le p q = (q.asked_is, inr (record { sectors = n; head = head; tail = q.bytes; own_is = joined x y _ _ p.0 q.own_is; sized = p.1; head_len = p.2; got_is = q.got_is; short = q.short }))
     tail_fails Memory x y le p q = tt
 
-    for_tail : Did (IsTableCall disk) 1 a b (Headed n head) → (call : Call) → IsCall (tail_call disk n) call → IsTableCall disk call
+    for_tail : Did (IsTableCall disk) 2 a b (Headed n head) → (call : Call) → IsCall (tail_call disk n) call → IsTableCall disk call
     for_tail d call is = inr (inr (n, d.outcome.1, is))
 
-    pub no_tail : (why : BootCause) → Did (IsTableCall disk) 1 a b (Headed n head) → Did (IsCall (tail_call disk n)) 1 b c (EndFails (tail_call disk n) why)
-        → Did (IsTableCall disk) 2 a c (TableOutcome disk (Err why))
-    no_tail why d e = did_then (IsTableCall disk) 1 1 a b c _ _ _ d (did_so _ _ 1 1 b c _ _ e (for_tail d) (omega arith) (λ t p. p)) (tail_fails why)
+    pub no_tail : (why : BootCause) → Did (IsTableCall disk) 2 a b (Headed n head) → Did (IsCall (tail_call disk n)) 1 b c (EndFails (tail_call disk n) why)
+        → Did (IsTableCall disk) 3 a c (TableOutcome disk (Err why))
+    no_tail why d e = did_then (IsTableCall disk) 2 1 a b c _ _ _ d (did_so _ _ 1 1 b c _ _ e (for_tail d) (omega arith) (λ t p. p)) (tail_fails why)
 
-    pub ended : (tail : List ℕ) → Did (IsTableCall disk) 1 a b (Headed n head) → Did (IsCall (tail_call disk n)) 1 b c (λ t. (t.own ≡ (tail_call disk n, Bytes tail) ∷ []) × (length tail ≡ 20480))
-        → Did (IsTableCall disk) 2 a c (Ended n head tail)
-    ended tail d e = did_then (IsTableCall disk) 1 1 a b c _ _ _ d (did_so _ _ 1 1 b c _ _ e (for_tail d) (omega arith) (λ t p. p))
+    pub ended : (tail : List ℕ) → Did (IsTableCall disk) 2 a b (Headed n head) → Did (IsCall (tail_call disk n)) 1 b c (λ t. (t.own ≡ (tail_call disk n, Bytes tail) ∷ []) × (length tail ≡ 20480))
+        → Did (IsTableCall disk) 3 a c (Ended n head tail)
+    ended tail d e = did_then (IsTableCall disk) 2 1 a b c _ _ _ d (did_so _ _ 1 1 b c _ _ e (for_tail d) (omega arith) (λ t p. p))
         (λ x y le p q. (joined x y _ _ p.0 q.0, p.1, p.2, q.1))
 
   abbrev ends : (n : ℕ) (head tail : List ℕ) (t : Trace) → Ended n head tail t → HeardEnds disk t.own
   ends n head tail t e = record { sectors = n; head = head; tail = tail; own_is = e.0; sized = e.1; head_len = e.2; tail_len = e.3 }
 
-  pub table_read : (n : ℕ) (head tail : List ℕ) (a b : Told) (r : Result Table GptFault) (t : Table) → Did (IsTableCall disk) 2 a b (Ended n head tail)
-      → (r ≡ gpt_of head tail n) ⊎ (r ≡ Err broken.Memory) → r ≡ Ok t → Did (IsTableCall disk) 2 a b (TableOutcome disk (Ok (record { disk = disk; table = t })))
-  table_read n head tail a b r t d (inl e) ok = did_so _ _ 2 2 a b _ _ d (λ call is. is) (omega arith) (λ u h. (refl, record { ends = ends n head tail u h; is = sym e ∙ ok }))
+  pub table_read : (n : ℕ) (head tail : List ℕ) (a b : Told) (r : Result Table GptFault) (t : Table) → Did (IsTableCall disk) 3 a b (Ended n head tail)
+      → (r ≡ gpt_of head tail n) ⊎ (r ≡ Err broken.Memory) → r ≡ Ok t → Did (IsTableCall disk) 3 a b (TableOutcome disk (Ok (record { disk = disk; table = t })))
+  table_read n head tail a b r t d (inl e) ok = did_so _ _ 3 3 a b _ _ d (λ call is. is) (omega arith) (λ u h. (refl, record { ends = ends n head tail u h; is = sym e ∙ ok }))
   table_read n head tail a b r t d (inr e) ok = absurd (let both : Ok t ≡ Err broken.Memory = sym ok ∙ e in cc)
 
   refused : (f : GptFault) (u : Trace) → BreaksTable disk u.own f → TableFails disk (gpt_cause f) u
@@ -134,12 +134,12 @@ module _ (disk : ℕ) where
   refused (broken.Overlap m n) u h = inr h
   refused broken.Memory u h = tt
 
-  pub table_broken : (n : ℕ) (head tail : List ℕ) (a b : Told) (r : Result Table GptFault) (f : GptFault) → Did (IsTableCall disk) 2 a b (Ended n head tail)
-      → (r ≡ gpt_of head tail n) ⊎ (r ≡ Err broken.Memory) → r ≡ Err f → Did (IsTableCall disk) 2 a b (TableOutcome disk (Err (gpt_cause f)))
-  table_broken n head tail a b r f d (inl e) is = did_so _ _ 2 2 a b _ _ d (λ call x. x) (omega arith) (λ u h. refused f u (record { ends = ends n head tail u h; is = sym e ∙ is }))
+  pub table_broken : (n : ℕ) (head tail : List ℕ) (a b : Told) (r : Result Table GptFault) (f : GptFault) → Did (IsTableCall disk) 3 a b (Ended n head tail)
+      → (r ≡ gpt_of head tail n) ⊎ (r ≡ Err broken.Memory) → r ≡ Err f → Did (IsTableCall disk) 3 a b (TableOutcome disk (Err (gpt_cause f)))
+  table_broken n head tail a b r f d (inl e) is = did_so _ _ 3 3 a b _ _ d (λ call x. x) (omega arith) (λ u h. refused f u (record { ends = ends n head tail u h; is = sym e ∙ is }))
   table_broken n head tail a b r f d (inr e) is =
       let same : f ≡ broken.Memory = cc in
-      did_so _ _ 2 2 a b _ _ d (λ call x. x) (omega arith) (λ u h. subst (λ (z : GptFault). TableFails disk (gpt_cause z) u) (sym same) tt)
+      did_so _ _ 3 3 a b _ _ d (λ call x. x) (omega arith) (λ u h. subst (λ (z : GptFault). TableFails disk (gpt_cause z) u) (sym same) tt)
 
 -- ---- the parts
 
@@ -165,8 +165,8 @@ module _ (tables : List TableOn) (disk : ℕ) (apk idsig : List ℕ) where
     named new (Err why) a b new_is p = lacks why a b p
 
   -- a table that was read before
-  pub known_before : (t : Table) (a : Told) (r : Result (Span × Span) BootCause) → table_on disk tables ≡ Some t → PartsNamed t apk idsig r → Did (IsTableCall disk) 2 a a (PartsOutcome tables disk apk idsig tables r)
-  known_before t a r is p = did_none _ 2 a _ (named t [] (Some t) is (refl, refl) tables r a a refl p)
+  pub known_before : (t : Table) (a : Told) (r : Result (Span × Span) BootCause) → table_on disk tables ≡ Some t → PartsNamed t apk idsig r → Did (IsTableCall disk) 3 a a (PartsOutcome tables disk apk idsig tables r)
+  known_before t a r is p = did_none _ 3 a _ (named t [] (Some t) is (refl, refl) tables r a a refl p)
 
   -- it was not read
   unread : (why : BootCause) (u : Trace) → table_on disk tables ≡ None → TableFails disk why u → PartsFail tables disk apk idsig why u
@@ -178,20 +178,20 @@ module _ (tables : List TableOn) (disk : ℕ) (apk idsig : List ℕ) where
   unread (Failed faults) u is h = (is, h)
   unread (Short asked got) u is h = (is, h)
 
-  pub not_read : (a b : Told) (why : BootCause) (new : List TableOn) → table_on disk tables ≡ None → Did (IsTableCall disk) 2 a b (TableOutcome disk (Err why)) → Did (IsTableCall disk) 2 a b (PartsOutcome tables disk apk idsig new (Err why))
-  not_read a b why new is d = did_so _ _ 2 2 a b _ _ d (λ call x. x) (omega arith) (λ u h. unread why u is h)
+  pub not_read : (a b : Told) (why : BootCause) (new : List TableOn) → table_on disk tables ≡ None → Did (IsTableCall disk) 3 a b (TableOutcome disk (Err why)) → Did (IsTableCall disk) 3 a b (PartsOutcome tables disk apk idsig new (Err why))
+  not_read a b why new is d = did_so _ _ 3 3 a b _ _ d (λ call x. x) (omega arith) (λ u h. unread why u is h)
 
   -- it was read now
-  pub read_lacks : (a b : Told) (k : TableOn) (why : BootCause) (new : List TableOn) → table_on disk tables ≡ None → Did (IsTableCall disk) 2 a b (TableOutcome disk (Ok k)) → PartsNamed k.table apk idsig (Err why)
-      → Did (IsTableCall disk) 2 a b (PartsOutcome tables disk apk idsig new (Err why))
-  read_lacks a b k why new is d p = record { own = d.own; talked = d.talked; calls = d.calls; few = d.few; outcome = lacks k.table d.own None is d.outcome.1 why a b p }
+  pub read_lacks : (a b : Told) (k : TableOn) (why : BootCause) (new : List TableOn) → table_on disk tables ≡ None → Did (IsTableCall disk) 3 a b (TableOutcome disk (Ok k)) → PartsNamed k.table apk idsig (Err why)
+      → Did (IsTableCall disk) 3 a b (PartsOutcome tables disk apk idsig new (Err why))
+  read_lacks a b k why new is d p = record { own = d.own; talked = d.talked; calls = d.calls; few = d.few; outcome = lacks k.table (heard_of d.own) None is d.outcome.1 why a b p }
 
   added : (k : TableOn) → k.disk ≡ disk → tables ++ k ∷ [] ≡ tables ++ record { disk = disk; table = k.table } ∷ []
   added k e = ap (λ (n : ℕ). tables ++ record { disk = n; table = k.table } ∷ []) e
 
-  pub read_finds : (a b : Told) (k : TableOn) (parts : Span × Span) (new : List TableOn) → table_on disk tables ≡ None → Did (IsTableCall disk) 2 a b (TableOutcome disk (Ok k)) → PartsNamed k.table apk idsig (Ok parts)
-      → new ≡ tables ++ k ∷ [] → Did (IsTableCall disk) 2 a b (PartsOutcome tables disk apk idsig new (Ok parts))
-  read_finds a b k parts new is d p e = record { own = d.own; talked = d.talked; calls = d.calls; few = d.few; outcome = finds k.table d.own None is d.outcome.1 new parts (e ∙ added k d.outcome.0) p }
+  pub read_finds : (a b : Told) (k : TableOn) (parts : Span × Span) (new : List TableOn) → table_on disk tables ≡ None → Did (IsTableCall disk) 3 a b (TableOutcome disk (Ok k)) → PartsNamed k.table apk idsig (Ok parts)
+      → new ≡ tables ++ k ∷ [] → Did (IsTableCall disk) 3 a b (PartsOutcome tables disk apk idsig new (Ok parts))
+  read_finds a b k parts new is d p e = record { own = d.own; talked = d.talked; calls = d.calls; few = d.few; outcome = finds k.table (heard_of d.own) None is d.outcome.1 new parts (e ∙ added k d.outcome.0) p }
 
-  pub read_memory : (P : Trace → Type 0) (a b : Told) (new : List TableOn) → Did (IsTableCall disk) 2 a b P → Did (IsTableCall disk) 2 a b (PartsOutcome tables disk apk idsig new (Err Memory))
-  read_memory P a b new d = did_so _ _ 2 2 a b _ _ d (λ call x. x) (omega arith) (λ u h. tt)
+  pub read_memory : (P : Trace → Type 0) (a b : Told) (new : List TableOn) → Did (IsTableCall disk) 3 a b P → Did (IsTableCall disk) 3 a b (PartsOutcome tables disk apk idsig new (Err Memory))
+  read_memory P a b new d = did_so _ _ 3 3 a b _ _ d (λ call x. x) (omega arith) (λ u h. tt)

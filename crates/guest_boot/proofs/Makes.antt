@@ -68,21 +68,21 @@ module _ (s : Booted) (disk : ℕ) (apk idsig : List ℕ) (how : How) where
   no_parts (Short asked got) t h = h
   no_parts Memory t h = h
 
-  pub apk_no_parts : (a b : Told) (why : BootCause) (tables : List TableOn) (new : Booted) → Did (IsTableCall disk) 2 a b (PartsOutcome s.tables disk apk idsig tables (Err why))
-      → Did (IsForApk disk) 3 a b (ApkOutcome s disk apk idsig how new (Err why))
-  apk_no_parts a b why tables new d = did_so _ _ 2 3 a b _ _ d (λ call is. inl is) (omega arith) (no_parts why)
+  pub apk_no_parts : (a b : Told) (why : BootCause) (tables : List TableOn) (new : Booted) → Did (IsTableCall disk) 3 a b (PartsOutcome s.tables disk apk idsig tables (Err why))
+      → Did (IsForApk disk) 4 a b (ApkOutcome s disk apk idsig how new (Err why))
+  apk_no_parts a b why tables new d = did_so _ _ 3 4 a b _ _ d (λ call is. inl is) (omega arith) (no_parts why)
 
   module _ (a b c : Told) (tables : List TableOn) (parts : Span × Span) (o : Opening) (o_is : o ≡ opening disk parts.0 parts.1 (measure_in how))
-      (d : Did (IsTableCall disk) 2 a b (PartsOutcome s.tables disk apk idsig tables (Ok parts))) where
+      (d : Did (IsTableCall disk) 3 a b (PartsOutcome s.tables disk apk idsig tables (Ok parts))) where
     for_idsig : (call : Call) → IsIdsigCall o call → IsForApk disk call
     for_idsig call is = inr (parts.1, is.call_is ∙ ap idsig_call o_is)
 
     both : (P R : Trace → Type 0) → Did (IsIdsigCall o) 1 b c P
         → ((x y : Exchanges) → a.faults ≤ b.faults → FindsParts s.tables disk apk idsig x tables parts → P (trace_of y b c) → R (trace_of (x ++ y) a c))
-        → Did (IsForApk disk) 3 a c R
-    both P R e f = did_then (IsForApk disk) 2 1 a b c _ P R (did_so _ _ 2 2 a b _ _ d (λ call is. inl is) (omega arith) (λ t p. p)) (did_so _ _ 1 1 b c _ _ e for_idsig (omega arith) (λ t p. p)) f
+        → Did (IsForApk disk) 4 a c R
+    both P R e f = did_then (IsForApk disk) 3 1 a b c _ P R (did_so _ _ 3 3 a b _ _ d (λ call is. inl is) (omega arith) (λ t p. p)) (did_so _ _ 1 1 b c _ _ e for_idsig (omega arith) (λ t p. p)) f
 
-    pub apk_memory : (new : Booted) (P : Trace → Type 0) → Did (IsIdsigCall o) 1 b c P → Did (IsForApk disk) 3 a c (ApkOutcome s disk apk idsig how new (Err Memory))
+    pub apk_memory : (new : Booted) (P : Trace → Type 0) → Did (IsIdsigCall o) 1 b c P → Did (IsForApk disk) 4 a c (ApkOutcome s disk apk idsig how new (Err Memory))
     apk_memory new P e = both P _ e (λ x y le p q. tt)
 
     refused : (f : ApkFault) (x y : Exchanges) → a.faults ≤ b.faults → FindsParts s.tables disk apk idsig x tables parts → OpenOutcome o (Err f) (trace_of y b c) → ApkIsRefused s disk apk idsig how f (trace_of (x ++ y) a c)
@@ -99,7 +99,7 @@ module _ (s : Booted) (disk : ℕ) (apk idsig : List ℕ) (how : How) where
     named (apks.SpanShort blocks sectors) t h = h
     named apks.Memory t h = tt
 
-    pub apk_refused : (new : Booted) (f : ApkFault) → Did (IsIdsigCall o) 1 b c (OpenOutcome o (Err f)) → Did (IsForApk disk) 3 a c (ApkOutcome s disk apk idsig how new (Err (apk_cause f)))
+    pub apk_refused : (new : Booted) (f : ApkFault) → Did (IsIdsigCall o) 1 b c (OpenOutcome o (Err f)) → Did (IsForApk disk) 4 a c (ApkOutcome s disk apk idsig how new (Err (apk_cause f)))
     apk_refused new f e = both _ _ e (λ x y le p q. named f _ (refused f x y le p q))
 
     boots : (new : Booted) (device : Device) (x y : Exchanges) → new ≡ record { tables = tables; items = s.items ++ device ∷ []; files = s.files } → FindsParts s.tables disk apk idsig x tables parts
@@ -117,7 +117,7 @@ module _ (s : Booted) (disk : ℕ) (apk idsig : List ℕ) (how : How) where
     }
 
     pub apk_boots : (new : Booted) (device : Device) → new ≡ record { tables = tables; items = s.items ++ device ∷ []; files = s.files } → Did (IsIdsigCall o) 1 b c (OpenOutcome o (Ok device))
-        → Did (IsForApk disk) 3 a c (ApkOutcome s disk apk idsig how new (Ok tt))
+        → Did (IsForApk disk) 4 a c (ApkOutcome s disk apk idsig how new (Ok tt))
     apk_boots new device e d2 = both _ _ d2 (λ x y le p q. boots new device x y e p q)
 
 -- ---- lines
@@ -133,8 +133,8 @@ apk_line : (s new : Booted) (disk : ℕ) (apk idsig : List ℕ) (how : How) (r :
 apk_line s new disk apk idsig how (Ok u) t h = h
 apk_line s new disk apk idsig how (Err why) t h = h
 
-pub did_apk : (s new : Booted) (disk : ℕ) (apk idsig : List ℕ) (how : How) (a b : Told) (r : Result (Unit {0}) BootCause) → Did (IsForApk disk) 3 a b (ApkOutcome s disk apk idsig how new r) → DidLine s new a b r (line.Apk disk apk idsig how)
-did_apk s new disk apk idsig how a b r d = did_so _ _ 3 3 a b _ _ d (λ call x. x) (omega arith) (apk_line s new disk apk idsig how r)
+pub did_apk : (s new : Booted) (disk : ℕ) (apk idsig : List ℕ) (how : How) (a b : Told) (r : Result (Unit {0}) BootCause) → Did (IsForApk disk) 4 a b (ApkOutcome s disk apk idsig how new r) → DidLine s new a b r (line.Apk disk apk idsig how)
+did_apk s new disk apk idsig how a b r d = did_so _ _ 4 4 a b _ _ d (λ call x. x) (omega arith) (apk_line s new disk apk idsig how r)
 
 file_line : (s new : Booted) (name : List ℕ) (file : ℕ) (digest : Digest) (r : Result (Unit {0}) BootCause) (t : Trace) → FileOutcome s file digest new r t → LineOutcome s (line.File name file digest) new r t
 file_line s new name file digest (Ok u) t h = h

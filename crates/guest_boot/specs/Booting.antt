@@ -70,9 +70,10 @@ pub record IsForLines (lines : List PlanLine) (call : Call) : Type 0 where
   pub stands : slice_get lines at ≡ Some line
   pub for : IsForLine line call
 
--- how many answers of bytes a line has at most: an APK device the two ends of its disk and its idsig, a file its descriptor
+-- how many calls a line makes at most, failed ones counted: an APK device asks for the size of its disk, its two ends and its idsig,
+-- a file for its descriptor
 abbrev pub most_of_line : PlanLine → ℕ
-most_of_line (line.Apk disk apk idsig how) = 3
+most_of_line (line.Apk disk apk idsig how) = 4
 most_of_line (line.File name file digest) = 1
 most_of_line other = 0
 

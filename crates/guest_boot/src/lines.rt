@@ -79,7 +79,7 @@ fn boot_apk<H: Host>(
 ) -> Result<(), BootCause>
     requires how { IsMeasuredBy how.now }
     requires items { AreItems boot.old.items.items }
-    ensures did { Did (IsForApk disk) 3 (H.told host.old) (H.told host.new) (ApkOutcome (state_of boot.old) disk apk.now idsig.now how.now (state_of boot.new) result) }
+    ensures did { Did (IsForApk disk) 4 (H.told host.old) (H.told host.new) (ApkOutcome (state_of boot.old) disk apk.now idsig.now how.now (state_of boot.new) result) }
     ensures items { AreItems boot.new.items.items }
 {
     let (first, second) = match parts_on(alloc, host, disk, apk, idsig, &mut boot.tables, buf) {

@@ -57,7 +57,7 @@ impl DiskTable {
 
 // How many sectors a disk has, where it may have a table.
 fn sectors_of<H: Host>(host: &mut H, disk: u32) -> Result<u64, BootCause>
-    ensures did { Did (IsCall (size_call disk)) 0 (H.told host.old) (H.told host.new) (SizeOutcome disk result) }
+    ensures did { Did (IsCall (size_call disk)) 1 (H.told host.old) (H.told host.new) (SizeOutcome disk result) }
     ensures least { IfOk result (λ n. 80 ≤ n) }
     ensures most { IfOk result (λ n. n ≤ 1099511627776) }
 {
@@ -120,7 +120,7 @@ fn read_table<H: Host>(
     disk: u32,
     buf: &mut Buffers,
 ) -> Result<DiskTable, BootCause>
-    ensures { Did (IsTableCall disk) 2 (H.told host.old) (H.told host.new) (TableOutcome disk result) }
+    ensures { Did (IsTableCall disk) 3 (H.told host.old) (H.told host.new) (TableOutcome disk result) }
 {
     let sectors = match sectors_of(host, disk) {
         Ok(sectors) => sectors,
@@ -193,7 +193,7 @@ pub fn parts_on<H: Host>(
     tables: &mut Vec<DiskTable>,
     buf: &mut Buffers,
 ) -> Result<(Span, Span), BootCause>
-    ensures did { Did (IsTableCall disk) 2 (H.told host.old) (H.told host.new) (PartsOutcome tables.old.items disk apk.now idsig.now tables.new.items result) }
+    ensures did { Did (IsTableCall disk) 3 (H.told host.old) (H.told host.new) (PartsOutcome tables.old.items disk apk.now idsig.now tables.new.items result) }
     ensures spans { IfOk result AreSpans }
 {
     if let Some(table) = known(tables.as_slice(), disk) {

@@ -1,11 +1,11 @@
 -- A session over a tape is a run in each world.
 use Rattle.std.proofs.Common.{◌≡◌, ◌+◌, ◌-◌, ◌^◌, min, ℕ, List, [], ◌++◌, refl, ap, sym, subst, ◌∙◌, Option, Some, Result, Ok, Err, ◌⊎◌, inl, inr}
-use Rattle.std.specs.Prelude.{flat_map}
 use Rattle.host_traits.specs.declared.calls.TapeItem.{TapeItem}
 use Rattle.host_traits.specs.Did.{Did, trace_of}
 use Rattle.host_traits.specs.Folders.{Files}
-use Rattle.host_traits.specs.Told.{Told, Talked, Exchanges, heard_more}
-use Rattle.host_tape.specs.Played.{Played, unplayed, tape_told, recited, failures}
+use Rattle.host_traits.specs.Told.{Told, Talked, Made, heard_of}
+use Rattle.host_traits.proofs.Talking.{talked_on}
+use Rattle.host_tape.specs.Played.{Played, unplayed, tape_told}
 use Rattle.verity_path.specs.declared.device.Device.{Device}
 use Rattle.guest_plan.specs.declared.plan.PlanLine.{PlanLine}
 use Rattle.guest_plan.specs.Plans.{Known}
@@ -14,7 +14,7 @@ use Rattle.guest_boot.specs.declared.faults.BootCause.TheVariants as cause
 use Rattle.guest_boot.specs.declared.faults.BootFault.{BootFault as Fault}
 use Rattle.guest_boot.specs.Booting.{IsForLines, most_of, IsFault}
 use Rattle.guest_rules.specs.Machine.{State, Turn, moment}
-use Rattle.guest_rules.specs.Run.{Runs}
+use Rattle.guest_rules.specs.Run.{Runs, calls_of}
 use Rattle.guest_rules.proofs.Standing.{runs_stand}
 use Rattle.guest_cli.specs.declared.boot.Machine.{Machine}
 use Rattle.guest_cli.specs.declared.session.SessionEnd.{SessionEnd}
@@ -27,25 +27,16 @@ use Rattle.guest_cli.specs.Booted.{BootedOutcome, BootsOver, Unbooted, boot_stat
 use Rattle.guest_cli.specs.Replay.{Replayed, AllRead, Sat, Replays}
 use Rattle.guest_cli.specs.Loads.{IsReady, PlayOutcome}
 
-some_same : (x y : Exchanges) → Some x ≡ Some y → x ≡ y
-some_same x y e = cc
-
-pub replayed : (items : List Device) (entropy : List ℕ) (records : List TapeItem) (booted : Exchanges) (t : State) (mid q : Played) (turns : List Turn) → Talked (tape_told (unplayed records)) (tape_told mid) booted
-    → Runs items (record { entropy = entropy }) t (tape_told mid) (tape_told q) turns → Replayed items entropy records booted (tape_told mid) turns
-replayed items entropy records booted t mid q turns boot runs =
-    let own : Exchanges = flat_map (λ (t : Turn). t.own) turns in
-    let same : q.records ≡ records = runs.talked.records ∙ boot.records in
-    let all : Some (recited q.calls q.records) ≡ Some (booted ++ own) = runs.talked.heard ∙ ap (λ (h : Option Exchanges). heard_more h own) boot.heard in
-    let heard : booted ++ own ≡ recited q.calls records = sym (some_same (recited q.calls q.records) (booted ++ own) all) ∙ ap (recited q.calls) same in
+pub replayed : (items : List Device) (entropy : List ℕ) (records : List TapeItem) (booted : List Made) (t : State) (mid finish : Told) (turns : List Turn) → Talked (tape_told (unplayed records)) mid booted
+    → Runs items (record { entropy = entropy }) t mid finish turns → Replayed items entropy records booted mid finish turns
+replayed items entropy records booted t mid finish turns boot runs =
+    let plain = runs.run (heard_of booted) boot.heard in
     record {
-      calls = q.calls;
-      finish = moment t (tape_told q) (booted ++ own);
-      heard = heard;
-      own = heard;
-      used = refl;
-      late = q.late;
-      faults = ap (λ rs. min (failures q.calls rs + q.late) (2 ^ 64 - 1)) same;
-      run = λ world w. runs_stand items world (moment (record { entropy = entropy }) (tape_told mid) booted) turns (moment t (tape_told q) (booted ++ own)) w (runs.run booted boot.heard);
+      talked = runs.talked;
+      plays = (talked_on (tape_told (unplayed records)) mid finish booted (calls_of turns) boot runs.talked).plays;
+      state = t;
+      plain = plain;
+      run = λ world w. runs_stand items world (moment (record { entropy = entropy }) mid (heard_of booted)) turns (moment t finish (heard_of booted ++ heard_of (calls_of turns))) w plain;
     }
 
 session_with : (P Q : List Turn → Type 0) → ((turns : List Turn) → P turns → Q turns) → (in_a in_b out_a out_b log_a log_b : Option (List ℕ)) (bytes rest : List ℕ) (turns : List Turn) → Session P in_a in_b out_a out_b log_a log_b bytes rest turns → Session Q in_a in_b out_a out_b log_a log_b bytes rest turns
@@ -69,13 +60,13 @@ session_so P Q so told in_a in_b out_a out_b log_a log_b (Err Write) d = (
 )
 
 -- the session over a tape, behind a boot over it
-pub tape_session : (items : List Device) (st : State) (entropy : List ℕ) (tape : Played) (booted : Exchanges) (t : State) (mid q : Played) (in_a in_b out_a out_b log_a log_b : Option (List ℕ)) (r : Result (Unit {0}) SessionEnd) → st ≡ record { entropy = entropy } → tape ≡ unplayed tape.records
-    → Talked (tape_told tape) (tape_told mid) booted
-    → IsSession (Runs items st t (tape_told mid) (tape_told q)) (tape_told q) in_a in_b out_a out_b log_a log_b r
-    → IsSession (Replayed items entropy tape.records booted (tape_told mid)) (tape_told q) in_a in_b out_a out_b log_a log_b r
-tape_session items st entropy tape booted t mid q in_a in_b out_a out_b log_a log_b r state fresh boot d =
-    session_so _ _ (λ turns runs. replayed items entropy tape.records booted t mid q turns (subst (λ (p : Played). Talked (tape_told p) (tape_told mid) booted) fresh boot)
-    (subst (λ (s : State). Runs items s t (tape_told mid) (tape_told q) turns) state runs)) (tape_told q) in_a in_b out_a out_b log_a log_b r d
+pub tape_session : (items : List Device) (st : State) (entropy : List ℕ) (tape : Played) (booted : List Made) (t : State) (mid finish : Told) (in_a in_b out_a out_b log_a log_b : Option (List ℕ)) (r : Result (Unit {0}) SessionEnd) → st ≡ record { entropy = entropy } → tape ≡ unplayed tape.records
+    → Talked (tape_told tape) mid booted
+    → IsSession (Runs items st t mid finish) finish in_a in_b out_a out_b log_a log_b r
+    → IsSession (Replayed items entropy tape.records booted mid finish) finish in_a in_b out_a out_b log_a log_b r
+tape_session items st entropy tape booted t mid finish in_a in_b out_a out_b log_a log_b r state fresh boot d =
+    session_so _ _ (λ turns runs. replayed items entropy tape.records booted t mid finish turns (subst (λ (p : Played). Talked (tape_told p) mid booted) fresh boot)
+    (subst (λ (s : State). Runs items s t mid finish turns) state runs)) finish in_a in_b out_a out_b log_a log_b r d
 
 -- ---- boot
 
@@ -83,7 +74,7 @@ pub booted_over : (lines : List PlanLine) (numbers : List ℕ) (start mid : Told
 booted_over lines numbers start mid m d = record { talked = d.talked; calls = d.calls; few = d.few; files = m.engine.files; opens = d.outcome }
 
 unbooted_with : (lines : List PlanLine) (numbers : List ℕ) (start finish : Told) (fault : Fault) (why : BootCause) → fault.why ≡ why → (why ≡ cause.Memory → ⊥) → (d : Did (IsForLines lines) (most_of lines) start finish (BootedOutcome lines numbers (Err fault)))
-    → (fault.why ≡ cause.Memory) ⊎ IsFault lines numbers fault (trace_of d.own start finish) → Unbooted lines numbers start fault
+    → (fault.why ≡ cause.Memory) ⊎ IsFault lines numbers fault (trace_of (heard_of d.own) start finish) → Unbooted lines numbers start fault
 unbooted_with lines numbers start finish fault why is other d (inl e) = absurd (other (sym is ∙ e))
 unbooted_with lines numbers start finish fault why is other d (inr f) = record { finish = finish; own = d.own; talked = d.talked; calls = d.calls; few = d.few; is = f }
 
@@ -146,7 +137,7 @@ module _ (files : Option Files) (plan tape entropy : List ℕ) (k : Known) (play
         booted = p.booted;
         mid = p.mid;
         boots = subst (λ (t : Played). BootsOver k.lines (tape_told t) p.mid p.booted p.items) ready.fresh p.boots;
-        played = p.played;
+        finish = p.finish;
         ended = p.ended;
         status_is = refl;
         session = p.session;

@@ -1,13 +1,13 @@
 -- A session over a recorded host is a run in each world; what is stored after it; and what each status says.
-use Rattle.std.proofs.Common.{◌≡◌, ℕ, List, [], ◌∷◌, ◌++◌, length, refl, ap, sym, subst, ◌∙◌, Option, Some, Result, Ok, Err, ◌⊎◌, inl, inr}
-use Rattle.std.specs.Prelude.{flat_map}
+use Rattle.std.proofs.Common.{◌≡◌, ℕ, List, [], ◌∷◌, ◌++◌, length, refl, ap, sym, subst, ◌∙◌, Option, Some, None, Result, Ok, Err, ◌⊎◌, inl, inr}
 use Rattle.host_traits.specs.declared.calls.TapeItem.{TapeItem}
 use Rattle.host_traits.specs.Folders.{Files, Errand}
 use Rattle.host_traits.specs.Held.{Held}
 use Rattle.host_traits.specs.Did.{Did}
-use Rattle.host_traits.specs.Told.{Told, Talked, Exchanges, heard_more}
+use Rattle.host_traits.specs.Told.{Told, Talked, Made, Calls, heard_of, taken}
+use Rattle.host_traits.proofs.Talking.{talked_on}
 use Rattle.host_tape.specs.Tape.{tape_bytes}
-use Rattle.host_rec.specs.Recorded.{Recorded as Recorder, Kept as KeptCalls, heard_by, nothing, told_with}
+use Rattle.host_rec.specs.Recorded.{Recorded as Recorder, Kept as KeptCalls, calls_in, nothing, told_with}
 use Rattle.host_mem.specs.Mem.{Mem, Count, mem_held, mem_told, unused}
 use Rattle.verity_path.specs.declared.device.Device.{Device}
 use Rattle.guest_plan.specs.declared.store.StoreLine.{StoreLine}
@@ -17,7 +17,7 @@ use Rattle.guest_files.specs.declared.load.Refusal.TheVariants as refusal
 use Rattle.guest_files.specs.Files.{Names}
 use Rattle.guest_files.specs.Keeping.{Parcel, IsStored, MayBeStored, StopsAt, StoringStops, kept_of}
 use Rattle.guest_rules.specs.Machine.{State, Turn, moment}
-use Rattle.guest_rules.specs.Run.{Runs}
+use Rattle.guest_rules.specs.Run.{Runs, calls_of}
 use Rattle.guest_rules.proofs.Standing.{runs_stand}
 use Rattle.guest_cli.specs.declared.session.SessionEnd.{SessionEnd}
 use Rattle.guest_cli.specs.declared.session.SessionEnd.TheVariants.{Read, Write, BadFrame, TooMuch as MuchEnd, Unbuilt as UnbuiltEnd}
@@ -34,27 +34,28 @@ use Rattle.guest_cli.proofs.Headline.{session_so, boot_fails}
 
 -- ---- the session
 
-some_same : (x y : Exchanges) → Some x ≡ Some y → x ≡ y
+some_same : (x y : Calls) → Some x ≡ Some y → x ≡ y
 some_same x y e = cc
 
 -- what a recorder before a host that was not called yet tells
 fresh_told : (m : Mem) (count : Count) → m.count ≡ count → count ≡ unused → told_with (mem_told m) nothing ≡ before (mem_held m)
 fresh_told m count is e = rw (is, e) refl
 
-recorded : (items : List Device) (entropy : List ℕ) (m : Mem) (booted : Exchanges) (t : State) (mid r : Recorder Mem) (turns : List Turn) → Talked (before (mem_held m)) (told_with (mem_told mid.host) mid.kept) booted
+recorded : (items : List Device) (entropy : List ℕ) (m : Mem) (booted : List Made) (t : State) (mid r : Recorder Mem) (turns : List Turn) → Talked (before (mem_held m)) (told_with (mem_told mid.host) mid.kept) booted
     → Runs items (record { entropy = entropy }) t (told_with (mem_told mid.host) mid.kept) (told_with (mem_told r.host) r.kept) turns
     → Recorded items entropy booted (told_with (mem_told mid.host) mid.kept) r.kept.calls r.kept.items (told_with (mem_told r.host) r.kept) turns
 recorded items entropy m booted t mid r turns boot runs =
     let finish : Told = told_with (mem_told r.host) r.kept in
     let start : Told = told_with (mem_told mid.host) mid.kept in
-    let own : Exchanges = flat_map (λ (t : Turn). t.own) turns in
-    let all : Some (heard_by r.kept) ≡ Some (booted ++ own) = runs.talked.heard ∙ ap (λ (h : Option Exchanges). heard_more h own) boot.heard in
+    let all = talked_on (before (mem_held m)) start finish booted (calls_of turns) boot runs.talked in
+    let plain = runs.run (heard_of booted) boot.heard in
     record {
       talked = runs.talked;
-      own = sym (some_same (heard_by r.kept) (booted ++ own) all);
+      made = sym (some_same (calls_in r.kept.calls r.kept.items) (taken None (booted ++ calls_of turns)) all.made);
       faults = refl;
       state = t;
-      run = λ world w. runs_stand items world (moment (record { entropy = entropy }) start booted) turns (moment t finish (booted ++ own)) w (runs.run booted boot.heard);
+      plain = plain;
+      run = λ world w. runs_stand items world (moment (record { entropy = entropy }) start (heard_of booted)) turns (moment t finish (heard_of booted ++ heard_of (calls_of turns))) w plain;
     }
 
 -- the same start, said of the host that was given
@@ -62,7 +63,7 @@ from_before : (m : Mem) (old : Recorder Mem) → old.host ≡ m → old.kept ≡
 from_before m old same none unused_is = ap (λ (h : Mem). told_with (mem_told h) old.kept) same ∙ (ap (λ (k : KeptCalls). told_with (mem_told m) k) none ∙ fresh_told m m.count refl unused_is)
 
 -- the session over a recorder before a host that was not called yet, behind a boot over it
-pub sat_over : (items : List Device) (st : State) (entropy : List ℕ) (m : Mem) (booted : Exchanges) (t : State) (old mid r : Recorder Mem) (old_s new_s : Streams) (e : Result (Unit {0}) SessionEnd) (plan : Known) → st ≡ record { entropy = entropy }
+pub sat_over : (items : List Device) (st : State) (entropy : List ℕ) (m : Mem) (booted : List Made) (t : State) (old mid r : Recorder Mem) (old_s new_s : Streams) (e : Result (Unit {0}) SessionEnd) (plan : Known) → st ≡ record { entropy = entropy }
     → old.host ≡ m → old.kept ≡ nothing → m.count ≡ unused → BootsOver plan.lines (told_with (mem_told old.host) old.kept) (told_with (mem_told mid.host) mid.kept) booted items
     → IsSession (Runs items st t (told_with (mem_told mid.host) mid.kept) (told_with (mem_told r.host) r.kept)) (told_with (mem_told r.host) r.kept) old_s.input new_s.input old_s.out new_s.out old_s.log new_s.log e
     → IsServed plan (mem_held m) entropy old_s new_s e r (told_with (mem_told r.host) r.kept)

@@ -1,9 +1,7 @@
 -- What boot makes of a plan's lines over a host, and why it came to no end.
-use Rattle.std.specs.Prelude.{◌≡◌, ◌≤◌, ◌⊎◌, ℕ, List, Result, Ok, Err}
-use Rattle.host_traits.specs.declared.calls.Call.{Call}
-use Rattle.host_traits.specs.declared.calls.Said.{Said}
-use Rattle.host_traits.specs.Did.{Trace, IsIn, byte_answers, trace_of}
-use Rattle.host_traits.specs.Told.{Told, Talked, Exchanges}
+use Rattle.std.specs.Prelude.{◌≡◌, ◌≤◌, ◌⊎◌, ℕ, List, length, Result, Ok, Err}
+use Rattle.host_traits.specs.Did.{Trace, Each, reads, trace_of}
+use Rattle.host_traits.specs.Told.{Told, Talked, Made, Exchanges, heard_of}
 use Rattle.verity_path.specs.declared.device.Device.{Device}
 use Rattle.ro_file.specs.Files.{MeasuredFile}
 use Rattle.guest_plan.specs.declared.plan.PlanLine.{PlanLine}
@@ -26,22 +24,22 @@ abbrev pub BootedOutcome : List PlanLine → List ℕ → Result Machine Fault �
 BootedOutcome lines numbers (Ok m) t = Opens lines t.own m.engine.items m.engine.files
 BootedOutcome lines numbers (Err fault) t = (fault.why ≡ cause.Memory) ⊎ IsFault lines numbers fault t
 
--- the lines were opened over a host: what it told before and after, and these exchanges between
-pub record BootsOver (lines : List PlanLine) (start mid : Told) (booted : Exchanges) (items : List Device) : Type 0 where
+-- the lines were opened over a host: what it told before and after, and these calls between, failed ones too, and no other
+pub record BootsOver (lines : List PlanLine) (start mid : Told) (booted : List Made) (items : List Device) : Type 0 where
   pub talked : Talked start mid booted
-  pub calls : (call : Call) (said : Said) → IsIn call said booted → IsForLines lines call
-  pub few : byte_answers booted ≤ most_of lines
+  pub calls : Each (reads (IsForLines lines)) booted
+  pub few : length booted ≤ most_of lines
   pub files : List MeasuredFile
-  pub opens : Opens lines booted items files
+  pub opens : Opens lines (heard_of booted) items files
 
--- a line was not opened, by what was heard for it
+-- a line was not opened, by what was heard for it: these calls were made, failed ones too, and no other
 pub record Unbooted (lines : List PlanLine) (numbers : List ℕ) (start : Told) (fault : Fault) : Type 0 where
   pub finish : Told
-  pub own : Exchanges
+  pub own : List Made
   pub talked : Talked start finish own
-  pub calls : (call : Call) (said : Said) → IsIn call said own → IsForLines lines call
-  pub few : byte_answers own ≤ most_of lines
-  pub is : IsFault lines numbers fault (trace_of own start finish)
+  pub calls : Each (reads (IsForLines lines)) own
+  pub few : length own ≤ most_of lines
+  pub is : IsFault lines numbers fault (trace_of (heard_of own) start finish)
 
 -- a fault of boot as a status
 abbrev pub boot_status_by : Fault → BootCause → Status

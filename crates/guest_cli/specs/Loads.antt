@@ -3,7 +3,7 @@ use Rattle.std.specs.Prelude.{◌≡◌, ◌≤◌, ℕ, List, ◌∷◌, Option
 use Rattle.host_traits.specs.declared.calls.TapeItem.{TapeItem}
 use Rattle.host_traits.specs.Folders.{Files, Errand, load_of, store_of}
 use Rattle.host_traits.specs.Held.{Held}
-use Rattle.host_traits.specs.Told.{Told, Exchanges, Rose}
+use Rattle.host_traits.specs.Told.{Told, Made, Rose}
 use Rattle.verity_path.specs.declared.device.Device.{Device}
 use Rattle.host_tape.specs.Played.{Played, unplayed, tape_told}
 use Rattle.host_tape.specs.Tape.{IsTape, Breaks, tape_bytes}
@@ -101,13 +101,13 @@ InputsFail files plan tape entropy other = ⊥
 -- the lines were opened over a tape, and the session ended with this status
 pub record IsPlayed (plan : Known) (tape : Played) (entropy : List ℕ) (old new : Streams) (status : Status) : Type 0 where
   pub items : List Device
-  pub booted : Exchanges
+  pub booted : List Made
   pub mid : Told
   pub boots : BootsOver plan.lines (tape_told tape) mid booted items
-  pub played : Played
+  pub finish : Told
   pub ended : Result (Unit {0}) SessionEnd
   pub status_is : status ≡ status_of ended
-  pub session : IsSession (Replayed items entropy tape.records booted mid) (tape_told played) old.input new.input old.out new.out old.log new.log ended
+  pub session : IsSession (Replayed items entropy tape.records booted mid finish) finish old.input new.input old.out new.out old.log new.log ended
 
 -- a line was not opened
 pub record IsUnplayed (plan : Known) (tape : Played) (old new : Streams) (status : Status) : Type 0 where
@@ -143,7 +143,7 @@ ServedFails files plan store entropy other = ⊥
 -- the lines were opened over a host that held this, and the session ended so; behind the recorder is the host after it
 pub record IsServed (plan : Known) (held : Held) (entropy : List ℕ) (old new : Streams) (ended : Result (Unit {0}) SessionEnd) (r : Recorder Mem) (finish : Told) : Type 0 where
   pub items : List Device
-  pub booted : Exchanges
+  pub booted : List Made
   pub mid : Told
   pub boots : BootsOver plan.lines (before held) mid booted items
   pub session : IsSession (Recorded items entropy booted mid r.kept.calls r.kept.items finish) finish old.input new.input old.out new.out old.log new.log ended

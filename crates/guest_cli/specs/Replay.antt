@@ -1,15 +1,14 @@
 -- A replay of a tape: what its turns are, and what each status says.
-use Rattle.std.specs.Prelude.{◌++◌, false, ◌≡◌, ◌+◌, ◌-◌, ◌^◌, min, length, ℕ, List, [], flat_map, Option, None, Result, ◌⊎◌, string_bytes}
-use Rattle.host_traits.specs.declared.calls.Call.{Call}
+use Rattle.std.specs.Prelude.{◌++◌, ◌≡◌, ◌+◌, length, ℕ, List, Option, Some, Result, ◌⊎◌, string_bytes}
 use Rattle.host_traits.specs.declared.calls.TapeItem.{TapeItem}
 use Rattle.host_traits.specs.Folders.{Files}
-use Rattle.host_traits.specs.Told.{Told, Exchanges}
-use Rattle.host_tape.specs.Played.{Played, unplayed, recited, failures, tape_told}
+use Rattle.host_traits.specs.Told.{Told, Talked, Made, Plays, heard_of}
+use Rattle.host_tape.specs.Played.{unplayed, tape_told}
 use Rattle.host_tape.specs.Tape.{IsTape, Breaks}
 use Rattle.verity_path.specs.declared.device.Device.{Device}
 use Rattle.guest_boot.specs.declared.faults.BootFault.{BootFault as Fault}
-use Rattle.guest_rules.specs.Machine.{World, Moment, Turn, moment}
-use Rattle.guest_rules.specs.Run.{Run, IsWorld}
+use Rattle.guest_rules.specs.Machine.{State, World, Turn, nowhere, moment}
+use Rattle.guest_rules.specs.Run.{Run, IsWorld, calls_of}
 use Rattle.guest_cli.specs.declared.session.SessionEnd.{SessionEnd}
 use Rattle.guest_cli.specs.declared.status.Form.TheVariants.{Command, Plan}
 use Rattle.guest_cli.specs.declared.status.Status.{Status}
@@ -19,19 +18,17 @@ use Rattle.guest_cli.specs.Booted.{BootsOver, Unbooted}
 use Rattle.guest_cli.specs.Session.{IsSession}
 use Rattle.guest_cli.specs.Outside.{Streams, Quiet, PlanRead, PlanBroken, PlanUnbuilt, status_of}
 
--- The turns of a replay, behind a boot that heard `booted`, after which the tape told `mid`. The answers that were heard, those of
--- boot before those of the turns, are those of the tape's first records in order, the records at which a call failed left out; a
--- call failed only where its record refused it, or after the tape's end. In each world that meets the premises, the turns are a
--- run of the machine from there.
-pub record Replayed (items : List Device) (entropy : List ℕ) (records : List TapeItem) (booted : Exchanges) (mid : Told) (turns : List Turn) : Type 0 where
-  pub calls : List Call
-  pub finish : Moment
-  pub heard : finish.heard ≡ recited calls records
-  pub own : booted ++ flat_map (λ t. t.own) turns ≡ recited calls records
-  pub used : finish.place ≡ length calls
-  pub late : ℕ
-  pub faults : finish.faults ≡ min (failures calls records + late) (2 ^ 64 - 1)
-  pub run : (world : World) → IsWorld items world finish.heard → Run items world (moment (record { entropy = entropy }) mid booted) turns finish
+-- The turns of a replay, behind a boot that made these calls, after which the tape told `mid`; after the turns it tells `finish`.
+-- The turns' calls are all that were made from there, failed ones too. What came of each call, boot's before the turns', is what the
+-- tape's next record answers; where that is a failure or of another kind, or there is none, the call failed. The turns are a run of
+-- the machine from there in the world without contents, and so in each world that meets the premises.
+pub record Replayed (items : List Device) (entropy : List ℕ) (records : List TapeItem) (booted : List Made) (mid finish : Told) (turns : List Turn) : Type 0 where
+  pub talked : Talked mid finish (calls_of turns)
+  pub plays : Plays (Some records) (booted ++ calls_of turns)
+  pub state : State
+  pub plain : Run items nowhere (moment (record { entropy = entropy }) mid (heard_of booted)) turns (moment state finish (heard_of booted ++ heard_of (calls_of turns)))
+  pub run : (world : World) → IsWorld items world (heard_of booted ++ heard_of (calls_of turns))
+      → Run items world (moment (record { entropy = entropy }) mid (heard_of booted)) turns (moment state finish (heard_of booted ++ heard_of (calls_of turns)))
 
 -- the tape was read
 pub record TapeRead (files : Option Files) (name : List ℕ) : Type 0 where
@@ -65,13 +62,13 @@ pub record AllRead (files : Option Files) (plan tape entropy : List ℕ) : Type 
 pub record Sat (files : Option Files) (plan tape entropy : List ℕ) (old new : Streams) (status : Status) : Type 0 where
   pub read : AllRead files plan tape entropy
   pub items : List Device
-  pub booted : Exchanges
+  pub booted : List Made
   pub mid : Told
   pub boots : BootsOver read.planned.plan.lines (tape_told (unplayed read.records)) mid booted items
-  pub played : Played
+  pub finish : Told
   pub ended : Result (Unit {0}) SessionEnd
   pub status_is : status ≡ status_of ended
-  pub session : IsSession (Replayed items read.bytes read.records booted mid) (tape_told played) old.input new.input old.out new.out old.log new.log ended
+  pub session : IsSession (Replayed items read.bytes read.records booted mid finish) finish old.input new.input old.out new.out old.log new.log ended
 
 -- a line of the plan was not opened over the tape
 pub record NotBooted (files : Option Files) (plan tape entropy : List ℕ) (fault : Fault) : Type 0 where

@@ -1,13 +1,13 @@
 -- A session over a host that is made from a store list, and recorded: what its turns are, which files are stored, and what each
 -- status says.
-use Rattle.std.specs.Prelude.{◌++◌, true, ◌≡◌, ◌+◌, ◌-◌, ◌^◌, min, length, ℕ, List, [], ◌∷◌, flat_map, Option, Some, None, Result, Ok, Err, ◌⊎◌, string_bytes}
+use Rattle.std.specs.Prelude.{◌++◌, true, ◌≡◌, ◌+◌, ◌-◌, ◌^◌, min, length, ℕ, List, [], ◌∷◌, Option, Some, None, Result, Ok, Err, ◌⊎◌, string_bytes}
 use Rattle.host_traits.specs.declared.calls.Call.{Call}
 use Rattle.host_traits.specs.declared.calls.TapeItem.{TapeItem}
 use Rattle.host_traits.specs.Folders.{Files, Errand, load_of, store_of}
 use Rattle.host_traits.specs.Held.{Held}
-use Rattle.host_traits.specs.Told.{Told, Talked, Exchanges}
+use Rattle.host_traits.specs.Told.{Told, Talked, Made, taken, heard_of}
 use Rattle.host_tape.specs.Tape.{tape_bytes}
-use Rattle.host_rec.specs.Recorded.{exchanges, failures}
+use Rattle.host_rec.specs.Recorded.{calls_in, failures}
 use Rattle.text_lines.specs.declared.kinds.PlanKind.{PlanKind}
 use Rattle.verity_path.specs.declared.device.Device.{Device}
 use Rattle.guest_plan.specs.declared.store.StoreLine.{StoreLine}
@@ -18,8 +18,8 @@ use Rattle.guest_files.specs.Files.{IsThere, Passes}
 use Rattle.guest_files.specs.Stocking.{Stock, Stocked, StockFails, unstocked}
 use Rattle.guest_files.specs.Keeping.{Parcel, AreStored, StoringStops, kept_of}
 use Rattle.guest_boot.specs.declared.faults.BootFault.{BootFault as Fault}
-use Rattle.guest_rules.specs.Machine.{State, World, Turn, moment}
-use Rattle.guest_rules.specs.Run.{Run, IsWorld}
+use Rattle.guest_rules.specs.Machine.{State, World, Turn, nowhere, moment}
+use Rattle.guest_rules.specs.Run.{Run, IsWorld, calls_of}
 use Rattle.guest_cli.specs.declared.session.SessionEnd.{SessionEnd}
 use Rattle.guest_cli.specs.declared.status.Form.TheVariants.{Command, Plan}
 use Rattle.guest_cli.specs.declared.status.Status.{Status}
@@ -30,19 +30,20 @@ use Rattle.guest_cli.specs.Outside.{Streams, Quiet, PlanRead, PlanBroken, PlanUn
 
 -- what a recorder before an honest host tells that holds this, before the first call
 abbrev pub before : Held → Told
-before held = record { faults = 0; last_failed = None; heard = Some []; held = Some held; records = []; place = 0; scarce = true; honest = true }
+before held = record { faults = 0; last_failed = None; heard = Some []; made = Some []; held = Some held; ahead = None; scarce = true; honest = true }
 
--- The turns of a session over a host that is recorded, behind a boot that heard `booted`, after which the recorder told `mid`:
--- these calls were made in all, each with its record. The answers that were heard, those of boot before those of the turns, are
--- those of the records in order, the failures left out; each is what the host then held, and a call failed only where it had to. In
--- each world that meets the premises, the turns are a run of the machine from there.
-pub record Recorded (items : List Device) (entropy : List ℕ) (booted : Exchanges) (mid : Told) (calls : List Call) (records : List TapeItem) (finish : Told) (turns : List Turn) : Type 0 where
-  pub talked : Talked mid finish (flat_map (λ t. t.own) turns)
-  pub own : booted ++ flat_map (λ t. t.own) turns ≡ exchanges calls records
+-- The turns of a session over a host that is recorded, behind a boot that made these calls, after which the recorder told `mid`:
+-- the turns' calls are all that were made from there, failed ones too. All calls, boot's before the turns', are these, each with its
+-- record. Each was answered by what the host then held, or failed where that could not serve it. The turns are a run of the machine
+-- from there in the world without contents, and so in each world that meets the premises.
+pub record Recorded (items : List Device) (entropy : List ℕ) (booted : List Made) (mid : Told) (calls : List Call) (records : List TapeItem) (finish : Told) (turns : List Turn) : Type 0 where
+  pub talked : Talked mid finish (calls_of turns)
+  pub made : taken None (booted ++ calls_of turns) ≡ calls_in calls records
   pub faults : finish.faults ≡ min (failures records) (2 ^ 64 - 1)
   pub state : State
-  pub run : (world : World) → IsWorld items world (booted ++ flat_map (λ t. t.own) turns)
-      → Run items world (moment (record { entropy = entropy }) mid booted) turns (moment state finish (booted ++ flat_map (λ t. t.own) turns))
+  pub plain : Run items nowhere (moment (record { entropy = entropy }) mid (heard_of booted)) turns (moment state finish (heard_of booted ++ heard_of (calls_of turns)))
+  pub run : (world : World) → IsWorld items world (heard_of booted ++ heard_of (calls_of turns))
+      → Run items world (moment (record { entropy = entropy }) mid (heard_of booted)) turns (moment state finish (heard_of booted ++ heard_of (calls_of turns)))
 
 -- the store list was read
 pub record ListRead (files : Option Files) (name : List ℕ) : Type 0 where
@@ -100,7 +101,7 @@ pub record SatOver (files : Option Files) (plan store entropy : List ℕ) (old n
   pub bytes : List ℕ
   pub bytes_there : IsThere files entropy bytes
   pub items : List Device
-  pub booted : Exchanges
+  pub booted : List Made
   pub mid : Told
   pub boots : BootsOver made.planned.plan.lines (before made.stock.held) mid booted items
   pub calls : List Call

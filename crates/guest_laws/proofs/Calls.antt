@@ -5,8 +5,10 @@ use Rattle.host_traits.specs.declared.calls.Call.{Call}
 use Rattle.host_traits.specs.declared.calls.Call.TheVariants.{BlockRead}
 use Rattle.host_traits.specs.declared.calls.Said.{Said}
 use Rattle.host_traits.specs.Held.{Held, serve}
-use Rattle.host_traits.specs.Told.{Exchanges, Serves}
-use Rattle.host_traits.specs.Did.{IsIn}
+use Rattle.host_traits.specs.Told.{Exchanges, heard_of}
+use Rattle.host_traits.specs.Did.{IsIn, reads}
+use Rattle.host_traits.proofs.Doing.{each_heard}
+use Rattle.guest_rules.proofs.Holding.{AreServed}
 use Rattle.sha_tree.specs.Tree.{ancestor}
 use Rattle.verity_path.specs.Calls.{call_for, tree_byte}
 use Rattle.verity_path.specs.declared.device.Device.{Device}
@@ -40,12 +42,10 @@ for_disk disk first tree it r call is f =
     let here : IsOfDisk disk (call_for it.layout it.measure.blocks level i) = subst (λ (l : Layout). IsOfDisk disk (call_for l it.measure.blocks level i)) (sym is) (of_disk disk first tree it.measure.blocks level i) in
     subst (IsOfDisk disk) (sym f.path.call_is) here
 
--- exchanges that are each what is held, are what is held one after another
-serves_all : (h : Held) (own : Exchanges) → ((call : Call) (said : Said) → IsIn call said own → serve h call [] ≡ Some (said, h)) → Serves h own h
-serves_all h [] all = refl
-serves_all h (x ∷ own) all = ([], h, all x.0 x.1 (inl refl), serves_all h own (λ call said i. all call said (inr i)))
-
 pub read_serves : (items : List Device) (world : World) (old : Moment) (turn : Turn) (new : Moment) (h : Held) (r : ItemRead) (it : Device) (disk first tree : ℕ)
-    → Step items world old turn new → request_of turn.frame ≡ read_of r → slice_get items r.item ≡ Some it → it.layout ≡ Parts disk first tree → AreTrue h disk turn.own → Serves h turn.own h
-read_serves items world old turn new h r it disk first tree step request at layout heard =
-    serves_all h turn.own (λ call said i. heard call said i (for_disk disk first tree it r call layout (calls_of items _ r it call request at (step.calls call said i))))
+    → Step items world old turn new → request_of turn.frame ≡ read_of r → slice_get items r.item ≡ Some it → it.layout ≡ Parts disk first tree → AreTrue h disk (heard_of turn.own) → AreServed h (heard_of turn.own)
+read_serves items world old turn new h r it disk first tree step request at layout heard = record {
+  each = λ call said i.
+      let for = (each_heard (reads (IsFor items (request_of turn.frame))) turn.own step.calls call said i).1.0 in
+      ([], heard call said i (for_disk disk first tree it r call layout (calls_of items _ r it call request at for)));
+}

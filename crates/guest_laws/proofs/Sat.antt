@@ -1,6 +1,6 @@
 -- A session in which no call failed.
 use Rattle.std.proofs.Common.{◌≡◌, ◌≤◌, ◌+◌, ◌-◌, ◌∙◌, ℕ, zero, suc, min, Bool, true, List, [], ◌∷◌, ◌++◌, length, Option, Some, None, refl, ap, sym, subst, inl, inr, ⊎_elim, append_assoc, append-nil, arith}
-use Rattle.std.specs.Prelude.{slice_get, flat_map}
+use Rattle.std.specs.Prelude.{slice_get}
 use Rattle.std.specs.List.{AllByRecursion}
 use Rattle.std.proofs.lemmas.List.{length-append}
 use Rattle.host_traits.specs.declared.calls.Call.{Call}
@@ -8,8 +8,9 @@ use Rattle.host_traits.specs.declared.calls.Call.TheVariants.{BlockSize, BlockRe
 use Rattle.host_traits.specs.declared.calls.Said.{Said}
 use Rattle.host_traits.specs.declared.calls.TapeItem.{TapeItem}
 use Rattle.host_traits.specs.Held.{Held, serve, found}
-use Rattle.host_traits.specs.Told.{Told, Exchanges, Serves, HeldAfter, Rose}
-use Rattle.host_traits.specs.Did.{IsIn}
+use Rattle.host_traits.specs.Told.{Told, Exchanges, Made, Serves, ServesAll, HeldAfter, Rose, exchange_of, heard_of}
+use Rattle.host_traits.specs.Did.{IsIn, Each, reads}
+use Rattle.host_traits.proofs.Doing.{in_both, each_so}
 use Rattle.host_rec.specs.Recorded.{failures}
 use Rattle.sha_tree.specs.declared.measure.Measure.{Measure}
 use Rattle.sha_tree.specs.Tree.{ancestor}
@@ -17,11 +18,11 @@ use Rattle.verity_path.specs.declared.device.Device.{Device}
 use Rattle.verity_path.proofs.Walking.{piece_left}
 use Rattle.guest_plan.specs.declared.plan.PlanLine.{PlanLine}
 use Rattle.guest_plan.specs.declared.plan.PlanLine.TheVariants as line
-use Rattle.guest_boot.specs.Booting.{AreServed, Booted, Boots, LineBoots, IsForLine, device_on, nothing}
+use Rattle.guest_boot.specs.Booting.{AreServed, Booted, Boots, LineBoots, IsForLine, IsForLines, device_on, nothing}
 use Rattle.guest_boot.proofs.Makes.{device_is_item}
 use Rattle.guest_rules.specs.Machine.{World, Moment, Turn, Request, IsItem, request_of, read_of, unbuilt, moment}
 use Rattle.guest_rules.specs.Step.{Step, IsFor}
-use Rattle.guest_rules.specs.Run.{Run, IsRunHashed, IsWorld}
+use Rattle.guest_rules.specs.Run.{Run, IsRunHashed, IsWorld, calls_of}
 use Rattle.guest_rules.specs.Faithful.{HoldsDevice, IsDefined}
 use Rattle.guest_rules.proofs.Holding.{IsReading, pair_is, when_is, reads_keep}
 use Rattle.guest_rules.proofs.Devices.{page_reads}
@@ -67,17 +68,24 @@ same_said p q e = (ap (λ x. x.0) e, ap (λ x. x.1) e)
 abbrev AreHeld : Held → Exchanges → Type 0
 AreHeld h own = (call : Call) (said : Said) → IsIn call said own → serve h call [] ≡ Some (said, h)
 
-boot_held : (own : Exchanges) (h k : Held) → Serves h own k → ((call : Call) (said : Said) → IsIn call said own → IsBootCall call) → (k ≡ h) × AreHeld h own
-boot_held [] h k s calls = (s, λ call said i. absurd i)
-boot_held (x ∷ own) h k s calls =
-    let same = call_keeps h s.1 x.0 s.0 x.1 (calls x.0 x.1 (inl refl)) s.2 in
-    let one : serve h x.0 [] ≡ Some (x.1, h) = call_bare h x.0 s.0 x.1 (calls x.0 x.1 (inl refl)) (subst (λ z. serve h x.0 s.0 ≡ Some (x.1, z)) same s.2) in
-    let rest = boot_held own h k (subst (λ z. Serves z own k) same s.3) (λ call said i. calls call said (inr i)) in (
+boot_keeps : (honest : Bool) (h k : Held) (call : Call) (given : List ℕ) (came : Option Said) → IsBootCall call → Serves honest h call given came k → k ≡ h
+boot_keeps honest h k call given None boot s = s.0
+boot_keeps honest h k call given (Some said) boot s = call_keeps h k call given said boot s
+
+held_one : (honest : Bool) (h : Held) (c : Call) (given : List ℕ) (came : Option Said) → IsBootCall c → Serves honest h c given came h
+    → (call : Call) (said : Said) → IsIn call said (exchange_of c came) → serve h call [] ≡ Some (said, h)
+held_one honest h c given None boot s call said i = absurd i
+held_one honest h c given (Some x) boot s call said (inl e) = rw ((same_said (call, said) (c, x) e).0, (same_said (call, said) (c, x) e).1) (call_bare h c given x boot s)
+held_one honest h c given (Some x) boot s call said (inr i) = absurd i
+
+boot_held : (honest : Bool) (own : List Made) (h k : Held) → ServesAll honest h own k → Each (reads IsBootCall) own → (k ≡ h) × AreHeld h (heard_of own)
+boot_held honest [] h k s calls = (s, λ call said i. absurd i)
+boot_held honest (m ∷ own) h k s calls =
+    let same = boot_keeps honest h s.0 m.call m.given m.came calls.0.0 s.1 in
+    let rest = boot_held honest own h k (subst (λ z. ServesAll honest z own k) same s.2) calls.1 in (
       rest.0,
-      λ call said i. elim i [
-        | inl e ↦ rw ((same_said (call, said) x e).0, (same_said (call, said) x e).1) one
-        | inr j ↦ rest.1 call said j
-      ],
+      in_both (λ call said. serve h call [] ≡ Some (said, h)) (exchange_of m.call m.came) (heard_of own)
+          (held_one honest h m.call m.given m.came calls.0.0 (subst (λ z. Serves honest h m.call m.given m.came z) same s.1)) rest.1,
     )
 
 boot_call : (l : PlanLine) (call : Call) → IsForLine l call → IsBootCall call
@@ -135,16 +143,19 @@ module _ (lines : List PlanLine) (h : Held) (world : World) (booted heard : Exch
 
 -- ---- a run over what is held
 
--- what is held after some exchanges, and after more
-serves_cut : (xs ys : Exchanges) (h k : Held) → Serves h (xs ++ ys) k → (mid : Held) × Serves h xs mid × Serves mid ys k
-serves_cut [] ys h k s = (h, refl, s)
-serves_cut (x ∷ xs) ys h k s = let rest = serves_cut xs ys s.1 k s.3 in (rest.0, (s.0, s.1, s.2, rest.1), rest.2)
-
-reads : (items : List Device) (request : Request) (call : Call) → IsFor items request call → IsReading call
-reads items (read_of r) call f =
+is_read : (items : List Device) (request : Request) (call : Call) → IsFor items request call → IsReading call
+is_read items (read_of r) call f =
     let g = f.2 in
     subst IsReading (sym g.path.call_is) (page_reads f.0.layout f.0.measure.blocks g.path.level (ancestor g.block g.path.level))
-reads items unbuilt call f = absurd f
+is_read items unbuilt call f = absurd f
+
+-- a turn changes nothing that is held
+step_keeps : (items : List Device) (world : World) (old : Moment) (turn : Turn) (new : Moment) (h : Held) → Step items world old turn new → old.told.held ≡ Some h → new.told.held ≡ Some h
+step_keeps items world old turn new h step told =
+    let after = subst (λ o. HeldAfter old.told.honest o turn.own new.told.held) told step.talked.held in
+    let keeps = reads_keep old.told.honest turn.own h after.0 after.2
+    (each_so (reads (IsFor items (request_of turn.frame))) (reads IsReading) turn.own (λ call given p. (is_read items (request_of turn.frame) call p.0, p.1)) step.calls) in
+    after.1 ∙ ap (λ (z : Held). Some z) keeps.0
 
 no_rise : (a b : ℕ) → b ≤ 0 → Rose a b → ⊥
 no_rise a b none rose = omega (arith, none, rose)
@@ -162,50 +173,43 @@ module _ (items : List Device) (world : World) where
   run_heard old [] new e = ([], ap (λ (m : Moment). m.heard) (sym e) ∙ sym (append-nil old.heard))
   run_heard old (turn ∷ turns) new r =
       let rest = run_heard r.0 turns new r.3 in
-      (turn.own ++ rest.0, rest.1 ∙ ap (λ (x : Exchanges). x ++ rest.0) r.2.heard ∙ append_assoc old.heard turn.own rest.0)
+      (heard_of turn.own ++ rest.0, rest.1 ∙ ap (λ (x : Exchanges). x ++ rest.0) r.2.heard ∙ append_assoc old.heard (heard_of turn.own) rest.0)
 
-  run_counts : (old : Moment) (turns : List Turn) (new : Moment) → Run items world old turns new → old.faults ≤ new.faults
-  run_counts old [] new e = subst (λ (m : Moment). old.faults ≤ m.faults) e (omega arith)
-  run_counts old (turn ∷ turns) new r = let rest = run_counts r.0 turns new r.3 in let one = r.2.counts in omega (arith, rest, one)
+  run_counts : (old : Moment) (turns : List Turn) (new : Moment) → Run items world old turns new → old.told.faults ≤ new.told.faults
+  run_counts old [] new e = subst (λ (m : Moment). old.told.faults ≤ m.told.faults) e (omega arith)
+  run_counts old (turn ∷ turns) new r = let rest = run_counts r.0 turns new r.3 in let one = r.2.talked.faults in omega (arith, rest, one)
 
   module _ (lines : List PlanLine) (h : Held) (kept : (k : ℕ) (l : PlanLine) (content : List ℕ) → item_line lines k ≡ Some l → world k ≡ Some content → IsKept h items k content) where
-    run_served : (turns : List Turn) (old new : Moment) (k : Held) → Run items world old turns new → Serves h (flat_map (λ t. t.own) turns) k → IsWorld items world new.heard → new.faults ≤ 0 → old.scarce ≡ true
+    run_served : (turns : List Turn) (old new : Moment) → Run items world old turns new → old.told.held ≡ Some h → IsWorld items world new.heard → new.told.faults ≤ 0 → old.told.scarce ≡ true
         → AllByRecursion (IsServedIn lines world) turns
-    run_served [] old new k run s w none scarce = tt
-    run_served (turn ∷ turns) old new k run s w none scarce =
+    run_served [] old new run told w none scarce = tt
+    run_served (turn ∷ turns) old new run told w none scarce =
         let mid : Moment = run.0 in
         let step : Step items world old turn mid = run.2 in
-        let cut = serves_cut turn.own (flat_map (λ t. t.own) turns) h k s in
-        let same = (reads_keep turn.own h cut.0 cut.1 (λ call said i. reads items (request_of turn.frame) call (step.calls call said i))).0 in
         let later = run_heard mid turns new run.3 in
         let here : IsWorld items world mid.heard = world_less mid.heard later.0 (subst (λ (x : Exchanges). IsWorld items world x) later.1 w) in
-        let low : mid.faults ≤ 0 = let c = run_counts mid turns new run.3 in omega (arith, c, none) in
-        let wants : mid.scarce ≡ true = step.scarce ∙ scarce in (
+        let low : mid.told.faults ≤ 0 = let c = run_counts mid turns new run.3 in omega (arith, c, none) in
+        let wants : mid.told.scarce ≡ true = step.talked.scarce ∙ scarce in (
           λ r l content request at is.
               let d = kept r.item l content at is in
               subst (λ (b : Bool). IsDefined r content b turn.sent turn.cause) wants
-              (all_served items world old turn mid h cut.0 r d.it content step request d.at d.item is here cut.1 d.holds (no_rise old.faults mid.faults low)).0,
-          run_served turns mid new k run.3 (subst (λ z. Serves z (flat_map (λ t. t.own) turns) k) same cut.2) w none wants,
+              (all_served items world old turn mid h r d.it content step request d.at d.item is here told d.holds (no_rise old.told.faults mid.told.faults low)).0,
+          run_served turns mid new run.3 (step_keeps items world old turn mid h step told) w none wants,
         )
 
--- what is held after exchanges, where it was told before
-held_after : (o p : Option Held) (h : Held) (xs : Exchanges) → o ≡ Some h → HeldAfter o xs p → (k : Held) × (p ≡ Some k) × Serves h xs k
-held_after o p h xs is after = subst (λ (z : Option Held). HeldAfter z xs p) is after
-
-module _ (lines : List PlanLine) (h : Held) (mid : Told) (booted : Exchanges) (items : List Device) (entropy : List ℕ) (calls : List Call) (records : List TapeItem) (finish : Told) (turns : List Turn) (world : World) where
+module _ (lines : List PlanLine) (h : Held) (mid : Told) (booted : List Made) (items : List Device) (entropy : List ℕ) (calls : List Call) (records : List TapeItem) (finish : Told) (turns : List Turn) (world : World) where
   turns_served : AreServed lines → BootsOver lines (before h) mid booted items → Recorded items entropy booted mid calls records finish turns → failures records ≡ 0
-      → IsWorld items world (booted ++ flat_map (λ t. t.own) turns) → HoldsWorld h lines world → AllByRecursion (IsServedIn lines world) turns
+      → IsWorld items world (heard_of booted ++ heard_of (calls_of turns)) → HoldsWorld h lines world → AllByRecursion (IsServedIn lines world) turns
   turns_served served over r calm w holds =
       let opens = over.opens in
-      let told = held_after (Some h) mid.held h booted refl over.talked.held in
-      let boot = boot_held booted h told.0 told.2 (λ call said i. let f = over.calls call said i in boot_call f.line call f.for) in
+      let told = over.talked.held in
+      let boot = boot_held true booted h told.0 told.2 (each_so (reads (IsForLines lines)) (reads IsBootCall) booted (λ call given p. (boot_call p.0.line call p.0.for, p.1)) over.calls) in
       let mid_held : mid.held ≡ Some h = told.1 ∙ ap (λ (z : Held). Some z) boot.0 in
-      let after = held_after mid.held finish.held h (flat_map (λ t. t.own) turns) mid_held r.talked.held in
       let none : finish.faults ≤ 0 = let f = r.faults in omega (arith, f, calm) in
-      let all : Exchanges = booted ++ flat_map (λ t. t.own) turns in
+      let all : Exchanges = heard_of booted ++ heard_of (calls_of turns) in
       let kept : (k : ℕ) (l : PlanLine) (content : List ℕ) → item_line lines k ≡ Some l → world k ≡ Some content → IsKept h items k content = λ k l content at is.
-      line_kept lines h world booted all served (record { tables = opens.tables; items = items; files = over.files }) opens.boots boot.1 w l k content at is (holds k l content at is) in
-      run_served items world lines h kept turns (moment (record { entropy = entropy }) mid booted) (moment r.state finish all) after.0 (r.run world w) after.2 w none over.talked.scarce
+      line_kept lines h world (heard_of booted) all served (record { tables = opens.tables; items = items; files = over.files }) opens.boots boot.1 w l k content at is (holds k l content at is) in
+      run_served items world lines h kept turns (moment (record { entropy = entropy }) mid (heard_of booted)) (moment r.state finish all) (r.run world w) mid_held w none over.talked.scarce
 
 pub sessions_served : SessionsAreServed
 sessions_served files plan store entropy old new ended s turns world r calm w holds =

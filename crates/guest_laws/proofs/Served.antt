@@ -13,7 +13,7 @@ use Rattle.guest_boot.specs.Booting.{AreServed, Booted, Boots, nothing}
 use Rattle.guest_rules.specs.Machine.{World, IsItem}
 use Rattle.guest_rules.specs.Run.{IsWorld}
 use Rattle.guest_rules.specs.Faithful.{HoldsAt, HoldsDevice}
-use Rattle.guest_rules.proofs.Serving.{all_served}
+use Rattle.guest_rules.proofs.Serving.{defined_over}
 use Rattle.guest_laws.specs.Fitting.{ApkReadsAreServed, AreTrue, HoldsApk, item_line}
 use Rattle.guest_laws.proofs.Calls.{read_serves}
 use Rattle.guest_laws.proofs.Fits.{IsHeldAt, true_table, boots_held}
@@ -49,4 +49,4 @@ apk_reads_served lines booted items files world old turn new h r content disk ap
     let a = apk_kept lines booted new.heard (record { tables = opens.tables; items = items; files = files }) world h r.item content disk apk idsig how m opens.boots served at_k is w holds booted_true in
     let held = a.held in
     let serves = read_serves items world old turn new h r a.it disk held.first held.tree step request a.at held.layout read_true in
-    (all_served items world old turn new h h r a.it content step request a.at a.item is w serves a.holds calm).0
+    defined_over items world old turn new h r a.it content step request a.at a.item is w serves a.holds calm

@@ -6,7 +6,7 @@ use Rattle.host_traits.specs.declared.calls.Call.TheVariants.{BlockSize, BlockRe
 use Rattle.host_traits.specs.declared.calls.Said.{Said}
 use Rattle.host_traits.specs.Did.{IsIn}
 use Rattle.host_traits.specs.Held.{Held, Disk, serve}
-use Rattle.host_traits.specs.Told.{Exchanges, Rose}
+use Rattle.host_traits.specs.Told.{Exchanges, Rose, heard_of}
 use Rattle.sha_tree.specs.declared.measure.Measure.{Measure}
 use Rattle.sha_tree.specs.Tree.{stored_tree}
 use Rattle.verity_path.specs.declared.device.Device.{Device}
@@ -81,5 +81,5 @@ ApkReadsAreServed = (lines : List PlanLine) (booted : Exchanges) (items : List D
     → Opens lines booted items files → AreServed lines → Step items world old turn new → request_of turn.frame ≡ read_of r
     → item_line lines r.item ≡ Some (line.Apk disk apk idsig how) → world r.item ≡ Some content
     → IsWorld items world new.heard → HoldsApk h disk apk idsig how m content
-    → AreTrue h disk booted → AreTrue h disk turn.own → (Rose old.faults new.faults → ⊥)
-    → IsDefined r content new.scarce turn.sent turn.cause
+    → AreTrue h disk booted → AreTrue h disk (heard_of turn.own) → (Rose old.told.faults new.told.faults → ⊥)
+    → IsDefined r content new.told.scarce turn.sent turn.cause

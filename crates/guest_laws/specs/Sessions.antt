@@ -1,14 +1,15 @@
 -- What a session over a host in memory says where no call fails.
-use Rattle.std.specs.Prelude.{true, ◌≡◌, ◌*◌, ◌++◌, ℕ, List, flat_map, Option, Some, Result}
+use Rattle.std.specs.Prelude.{true, ◌≡◌, ◌*◌, ◌++◌, ℕ, List, Option, Some, Result}
 use Rattle.std.specs.List.{AllByRecursion}
 use Rattle.host_traits.specs.Folders.{Files}
 use Rattle.host_traits.specs.Held.{Held}
+use Rattle.host_traits.specs.Told.{heard_of}
 use Rattle.host_rec.specs.Recorded.{failures}
 use Rattle.sha_tree.specs.declared.measure.Measure.{Measure}
 use Rattle.guest_plan.specs.declared.plan.PlanLine.{PlanLine}
 use Rattle.guest_plan.specs.declared.plan.PlanLine.TheVariants as line
 use Rattle.guest_rules.specs.Machine.{World, Turn, ItemRead, request_of, read_of}
-use Rattle.guest_rules.specs.Run.{IsWorld}
+use Rattle.guest_rules.specs.Run.{IsWorld, calls_of}
 use Rattle.guest_rules.specs.Faithful.{HoldsFile, IsDefined}
 use Rattle.guest_cli.specs.declared.session.SessionEnd.{SessionEnd}
 use Rattle.guest_cli.specs.Outside.{Streams}
@@ -36,5 +37,5 @@ IsServedIn lines world turn = (r : ItemRead) (l : PlanLine) (content : List ℕ)
 abbrev pub SessionsAreServed : Type 0
 SessionsAreServed = (files : Option Files) (plan store entropy : List ℕ) (old new : Streams) (ended : Result (Unit {0}) SessionEnd) (s : SatOver files plan store entropy old new ended) (turns : List Turn) (world : World)
     → Recorded s.items s.bytes s.booted s.mid s.calls s.records s.finish turns → failures s.records ≡ 0
-    → IsWorld s.items world (s.booted ++ flat_map (λ t. t.own) turns) → HoldsWorld s.made.stock.held s.made.planned.plan.lines world
+    → IsWorld s.items world (heard_of s.booted ++ heard_of (calls_of turns)) → HoldsWorld s.made.stock.held s.made.planned.plan.lines world
     → AllByRecursion (IsServedIn s.made.planned.plan.lines world) turns

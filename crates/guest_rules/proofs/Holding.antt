@@ -1,12 +1,13 @@
 -- What a host that holds an item answers to the calls for its pages.
-use Rattle.std.proofs.Common.{◌≡◌, ℕ, List, [], ◌∷◌, refl, ap, sym, subst, inl, inr, Option, Some, None, true, false}
+use Rattle.std.proofs.Common.{◌≡◌, ℕ, List, [], ◌∷◌, ◌++◌, ◌∙◌, refl, ap, sym, subst, inl, inr, Option, Some, None, true, false}
 use Rattle.std.specs.Prelude.{Bool}
 use Rattle.host_traits.specs.declared.calls.Call.{Call}
 use Rattle.host_traits.specs.declared.calls.Call.TheVariants.{BlockRead, FileRead, TreeRead}
 use Rattle.host_traits.specs.declared.calls.Said.{Said}
 use Rattle.host_traits.specs.Held.{Held, serve, found, when}
-use Rattle.host_traits.specs.Told.{Exchanges, Serves}
-use Rattle.host_traits.specs.Did.{IsIn}
+use Rattle.host_traits.specs.Told.{Exchanges, Made, Serves, ServesAll, exchange_of, heard_of}
+use Rattle.host_traits.specs.Did.{IsIn, Each, reads}
+use Rattle.host_traits.proofs.Doing.{in_both}
 
 -- a call that reads a block, a file or a page of a file's tree, and so changes nothing that is held
 pub data IsReading : Call → Type 0 where
@@ -46,16 +47,24 @@ pub record AreServed (h : Held) (own : Exchanges) : Type 0 where
 same_said : (p q : Call × Said) → p ≡ q → (p.0 ≡ q.0) × (p.1 ≡ q.1)
 same_said p q e = (ap (λ x. x.0) e, ap (λ x. x.1) e)
 
-pub reads_keep : (own : Exchanges) (h k : Held) → Serves h own k → ((call : Call) (said : Said) → IsIn call said own → IsReading call) → (k ≡ h) × AreServed h own
-reads_keep [] h k s reading = (s, record { each = λ call said i. absurd i })
-reads_keep (x ∷ own) h k s reading =
-    let same = reading_keeps h s.1 x.0 s.0 x.1 (reading x.0 x.1 (inl refl)) s.2 in
-    let rest = reads_keep own h k (subst (λ z. Serves z own k) same s.3) (λ call said i. reading call said (inr i)) in (
+pub keeps_one : (honest : Bool) (h k : Held) (call : Call) (given : List ℕ) (came : Option Said) → IsReading call → Serves honest h call given came k → k ≡ h
+keeps_one honest h k call given None reading s = s.0
+keeps_one honest h k call given (Some said) reading s = reading_keeps h k call given said reading s
+
+served_one : (honest : Bool) (h : Held) (c : Call) (given : List ℕ) (came : Option Said) → Serves honest h c given came h
+    → (call : Call) (said : Said) → IsIn call said (exchange_of c came) → (g : List ℕ) × (serve h call g ≡ Some (said, h))
+served_one honest h c given None s call said i = absurd i
+served_one honest h c given (Some x) s call said (inl e) = (given, rw ((same_said (call, said) (c, x) e).0, (same_said (call, said) (c, x) e).1) s)
+served_one honest h c given (Some x) s call said (inr i) = absurd i
+
+pub reads_keep : (honest : Bool) (own : List Made) (h k : Held) → ServesAll honest h own k → Each (reads IsReading) own → (k ≡ h) × AreServed h (heard_of own)
+reads_keep honest [] h k s reading = (s, record { each = λ call said i. absurd i })
+reads_keep honest (m ∷ own) h k s reading =
+    let same = keeps_one honest h s.0 m.call m.given m.came reading.0.0 s.1 in
+    let rest = reads_keep honest own h k (subst (λ z. ServesAll honest z own k) same s.2) reading.1 in (
       rest.0,
       record {
-        each = λ call said i. elim i [
-          | inl e ↦ (s.0, rw ((same_said (call, said) x e).0, (same_said (call, said) x e).1) (subst (λ z. serve h x.0 s.0 ≡ Some (x.1, z)) same s.2))
-          | inr j ↦ rest.1.each call said j
-        ];
+        each = in_both (λ call said. (g : List ℕ) × (serve h call g ≡ Some (said, h))) (exchange_of m.call m.came) (heard_of own)
+            (served_one honest h m.call m.given m.came (subst (λ z. Serves honest h m.call m.given m.came z) same s.1)) rest.1.each;
       },
     )

@@ -4,3 +4,4 @@ pub mod Holding
 pub mod Devices
 pub mod Serving
 pub mod Requests
+pub mod Exact

@@ -2,7 +2,7 @@
 use Rattle.std.proofs.Common.{◌≡◌, ℕ, ◌^◌, ◌<◌, List, [], ◌∷◌, ◌++◌, refl, ap, sym, ◌∙◌, subst, Option, Some, None}
 use Rattle.std.specs.Prelude.{slice_get}
 use Rattle.host_traits.specs.Held.{Held}
-use Rattle.host_traits.specs.Told.{Told, Exchanges, Rose, HeldAfter, heard_more, heard_size}
+use Rattle.host_traits.specs.Told.{Told, Exchanges, Rose, heard_more, heard_of, heard_size}
 use Rattle.session_frames.specs.Frames.{Framed}
 use Rattle.session_frames.specs.Replies.{Sent}
 use Rattle.verity_path.specs.declared.device.Cause.{Cause}
@@ -16,19 +16,17 @@ use Rattle.guest_rules.proofs.Serving.{all_served}
 
 applied : (items : List Device) (world : World) (s t : State) (a b : Told) (frame : Framed) (sent : Sent) (cause : Option Cause) (heard : Exchanges) (h : Held) (r : ItemRead) (it : Device) (content : List ℕ)
     → (step : Stepped items s t a b frame sent cause) → a.heard ≡ Some heard → heard_size heard < 2 ^ 30 → a.held ≡ Some h → request_of frame ≡ read_of r → slice_get items r.item ≡ Some it → IsItem it → world r.item ≡ Some content
-    → IsWorld items world (heard ++ step.own) → HoldsDevice h it content → (Rose a.faults b.faults → ⊥) → IsDefined r content b.scarce sent cause × (b.held ≡ Some h)
+    → IsWorld items world (heard ++ heard_of step.own) → HoldsDevice h it content → (Rose a.faults b.faults → ⊥) → IsDefined r content b.scarce sent cause × (b.held ≡ Some h)
 applied items world s t a b frame sent cause heard h r it content step told few held request at item is w holds calm =
     let turn : Turn = record { frame = frame; own = step.own; sent = sent; cause = cause } in
-    let in_world = runs_stand items world (moment s a heard) (turn ∷ []) (moment t b (heard ++ step.own)) w (moment t b (heard ++ step.own), few, step.step heard told, refl) in
-    let one : Step items world (moment s a heard) turn (moment t b (heard ++ step.own)) = subst (λ m. Step items world (moment s a heard) turn m) in_world.3 in_world.2 in
-    let after = subst (λ o. HeldAfter o step.own b.held) held step.talked.held in
-    let all = all_served items world (moment s a heard) turn (moment t b (heard ++ step.own)) h after.0 r it content one request at item is w after.2 holds calm in
-    (all.0, after.1 ∙ ap Some all.1)
+    let in_world = runs_stand items world (moment s a heard) (turn ∷ []) (moment t b (heard ++ heard_of step.own)) w (moment t b (heard ++ heard_of step.own), few, step.step heard told, refl) in
+    let one : Step items world (moment s a heard) turn (moment t b (heard ++ heard_of step.own)) = subst (λ m. Step items world (moment s a heard) turn m) in_world.3 in_world.2 in
+    all_served items world (moment s a heard) turn (moment t b (heard ++ heard_of step.own)) h r it content one request at item is w held holds calm
 
 same_heard : (x y : Exchanges) → Some x ≡ Some y → x ≡ y
 same_heard x y e = cc
 
 pub read_is_served : (items : List Device) (s t : State) (a b : Told) (frame : Framed) (sent : Sent) (cause : Option Cause) → Stepped items s t a b frame sent cause → ReadIsServed items a b frame sent cause
 read_is_served items s t a b frame sent cause step world heard now h r it content told few after held request at item is w holds calm =
-    let all : heard ++ step.own ≡ now = same_heard (heard ++ step.own) now (sym (step.talked.heard ∙ ap (λ (o : Option Exchanges). heard_more o step.own) told) ∙ after) in
+    let all : heard ++ heard_of step.own ≡ now = same_heard (heard ++ heard_of step.own) now (sym (step.talked.heard ∙ ap (λ (o : Option Exchanges). heard_more o (heard_of step.own)) told) ∙ after) in
     applied items world s t a b frame sent cause heard h r it content step told few held request at item is (subst (λ (z : Exchanges). IsWorld items world z) (sym all) w) holds calm

@@ -3,23 +3,18 @@ use Rattle.std.proofs.Common.{◌≡◌, ℕ, ◌+◌, ◌^◌, ◌<◌, ◌≤�
 use Rattle.std.specs.Prelude.{flat_map, ◌⊎◌}
 use Rattle.std.specs.Io.KnownBytes.{Appends}
 use Rattle.host_traits.specs.declared.calls.Call.{Call}
-use Rattle.host_traits.specs.Told.{Told, Exchanges, Failures, heard_more, heard_size}
-use Rattle.host_traits.specs.Did.{Trace, trace_of, trace_after, Did}
-use Rattle.host_traits.proofs.Talking.{talked_not, talked_on}
+use Rattle.host_traits.specs.Told.{Told, Exchanges, Made, heard_more, heard_of, heard_size}
+use Rattle.host_traits.specs.Did.{Trace, trace_of, trace_after, reads, Did}
+use Rattle.host_traits.proofs.Doing.{each_so}
+use Rattle.host_traits.proofs.Talking.{heard_of-append, talked_not, talked_on}
 use Rattle.session_frames.specs.Frames.{Framed}
 use Rattle.session_frames.specs.Replies.{Sent, reply_frame}
 use Rattle.session_frames.proofs.Prefixes.{appends_then}
 use Rattle.verity_path.specs.declared.device.Cause.{Cause}
 use Rattle.verity_path.specs.declared.device.Device.{Device}
 use Rattle.guest_rules.specs.Machine.{State, Moment, moment, Turn, nowhere, request_of}
-use Rattle.guest_rules.specs.Step.{IsFor, most_for, Row, Stepped, WhyRefused}
-use Rattle.guest_rules.specs.Run.{Run, Runs, Ran, out_bytes, log_line, log_bytes, frame_size, frames_of}
-
--- what the host tells of a failure, at the moments before and after
-why_refused : (old_state new_state : State) (a b : Told) (heard own : Exchanges) → Failures a b own
-    → ((b.faults ≡ a.faults) × (b.last_failed ≡ a.last_failed)) ⊎ WhyRefused (moment old_state a heard) (moment new_state b (heard ++ own))
-why_refused old_state new_state a b heard own (inl p) = inl p
-why_refused old_state new_state a b heard own (inr w) = inr (record { call = w.call; last = w.last; place = w.place; from = w.from; to = w.to; refuses = w.refuses })
+use Rattle.guest_rules.specs.Step.{IsFor, most_for, Row, Stepped}
+use Rattle.guest_rules.specs.Run.{Run, Runs, Ran, calls_of, out_bytes, log_line, log_bytes, frame_size, frames_of}
 
 -- a request by the work that was done for it
 pub stepped : (items : List Device) (old_state new_state : State) (a b : Told) (frame : Framed) (sent : Sent) (cause : Option Cause) (F : Call → Type 0) (most : ℕ) (P : Trace → Type 0)
@@ -30,15 +25,11 @@ stepped items old_state new_state a b frame sent cause F most P d for few row = 
   own = d.own;
   talked = d.talked;
   step = λ heard is. record {
+    talked = d.talked;
     heard = refl;
-    counts = d.talked.faults;
-    records = d.talked.records;
-    place = d.talked.place;
-    failures = why_refused old_state new_state a b heard d.own d.talked.failures;
-    scarce = d.talked.scarce;
-    calls = λ call said i. for call (d.calls call said i);
+    calls = each_so (reads F) (reads (IsFor items (request_of frame))) d.own (λ call given p. (for call p.0, p.1)) d.calls;
     few = omega (arith, d.few, few);
-    row = row heard d.own d.outcome;
+    row = row heard (heard_of d.own) d.outcome;
   };
 }
 
@@ -77,14 +68,21 @@ heard_same h heard own e = rw e refl
 runs_none : (items : List Device) (state : State) (a : Told) → Runs items state state a a []
 runs_none items state a = record { talked = talked_not a; run = λ heard is. ap (moment state a) (sym (append-nil heard)) }
 
+calls_both : (xs ys : List Turn) → calls_of (xs ++ ys) ≡ calls_of xs ++ calls_of ys
+calls_both xs ys = flat_map-both (λ (t : Turn). t.own) xs ys
+
+heard_both : (heard : Exchanges) (xs ys : List Turn) → heard ++ heard_of (calls_of (xs ++ ys)) ≡ (heard ++ heard_of (calls_of xs)) ++ heard_of (calls_of ys)
+heard_both heard xs ys =
+    ap (λ z. heard ++ z) (ap heard_of (calls_both xs ys) ∙ heard_of-append (calls_of xs) (calls_of ys)) ∙ sym (append_assoc heard (heard_of (calls_of xs)) (heard_of (calls_of ys)))
+
 -- frames, and then others
 pub runs_both : (items : List Device) (r s t : State) (a b c : Told) (xs ys : List Turn) → Runs items r s a b xs → Runs items s t b c ys → Runs items r t a c (xs ++ ys)
 runs_both items r s t a b c xs ys p q = record {
-  talked = rw (flat_map-both (λ (t : Turn). t.own) xs ys) (talked_on a b c _ _ p.talked q.talked);
+  talked = rw (calls_both xs ys) (talked_on a b c (calls_of xs) (calls_of ys) p.talked q.talked);
   run = λ heard is.
-      let told : b.heard ≡ Some (heard ++ flat_map (λ (t : Turn). t.own) xs) = p.talked.heard ∙ heard_same a.heard heard _ is in
-      let later = q.run (heard ++ flat_map (λ (t : Turn). t.own) xs) told in
-      rw (flat_map-both (λ (t : Turn). t.own) xs ys, ← append_assoc heard (flat_map (λ (t : Turn). t.own) xs) (flat_map (λ (t : Turn). t.own) ys)) (run_both items _ xs _ ys _ (p.run heard is) later);
+      let told : b.heard ≡ Some (heard ++ heard_of (calls_of xs)) = p.talked.heard ∙ heard_same a.heard heard _ is in
+      let later = q.run (heard ++ heard_of (calls_of xs)) told in
+      subst (λ z. Run items nowhere (moment r a heard) (xs ++ ys) (moment t c z)) (sym (heard_both heard xs ys)) (run_both items _ xs _ ys _ (p.run heard is) later);
 }
 
 -- the turn of a frame that was answered
@@ -96,7 +94,7 @@ pub runs_one : (items : List Device) (s t : State) (b c : Told) (frame : Framed)
     → ((heard : Exchanges) → b.heard ≡ Some heard → heard_size heard < 2 ^ 30) → Runs items s t b c (turn_of items s t b c frame sent cause step ∷ [])
 runs_one items s t b c frame sent cause step few = record {
   talked = rw (append-nil step.own) step.talked;
-  run = λ heard is. (moment t c (heard ++ step.own), few heard is, step.step heard is, rw (append-nil step.own) refl);
+  run = λ heard is. (moment t c (heard ++ heard_of step.own), few heard is, step.step heard is, rw (append-nil step.own) refl);
 }
 
 pub ran_none : (items : List Device) (state : State) (a : Told) (at : ℕ) (out log : Option (List ℕ)) → Ran items state state a a at out out log log []

@@ -6,8 +6,9 @@ use Rattle.host_traits.specs.declared.calls.Call.{Call}
 use Rattle.host_traits.specs.declared.calls.Said.{Said}
 use Rattle.host_traits.specs.declared.calls.Said.TheVariants.{Bytes}
 use Rattle.host_traits.specs.Held.{Held, serve}
-use Rattle.host_traits.specs.Told.{Rose, kind_of, kind_bytes}
-use Rattle.host_traits.specs.Did.{IsIn, Trace, IsShort}
+use Rattle.host_traits.specs.Told.{Rose, HeldAfter, heard_of, kind_of, kind_bytes}
+use Rattle.host_traits.specs.Did.{IsIn, Each, reads, Trace, IsShort}
+use Rattle.host_traits.proofs.Doing.{each_heard, each_so}
 use Rattle.session_frames.specs.Replies.{Sent}
 use Rattle.sha_tree.specs.Tree.{ancestor}
 use Rattle.sha_tree.specs.Measured.{IsMeasured}
@@ -24,9 +25,9 @@ use Rattle.verity_path.specs.declared.device.Cause.TheVariants.{Mismatch as OfMi
 use Rattle.verity_path.specs.declared.device.Device.{Device}
 use Rattle.verity_path.proofs.Asking.{kind_asked}
 use Rattle.verity_path.proofs.Blaming.{mismatch_lies}
-use Rattle.guest_rules.specs.Machine.{World, State, ItemRead, Request, read_of, IsItem, size_of}
+use Rattle.guest_rules.specs.Machine.{World, State, Moment, Turn, ItemRead, Request, read_of, request_of, IsItem, size_of}
 use Rattle.guest_rules.specs.ItemRow.{IsForItem, ItemRow, no_item, too_large, served, blamed, no_memory}
-use Rattle.guest_rules.specs.Step.{IsFor, Row}
+use Rattle.guest_rules.specs.Step.{Step, IsFor, Row}
 use Rattle.guest_rules.specs.Run.{IsWorld}
 use Rattle.guest_rules.specs.Faithful.{HoldsDevice, IsDefined, over_limit, whole, no_room, ReadsAreServed}
 use Rattle.guest_rules.proofs.Standing.{item_hashed}
@@ -106,16 +107,25 @@ row_of items world t request old new sent cause r e row =
     (subst (λ q. Row items world t q old new sent cause) e row).1
 
 -- the calls of a read are those for its item
-calls_of : (items : List Device) (request : Request) (r : ItemRead) (it : Device) (call : Call) → request ≡ read_of r → slice_get items r.item ≡ Some it → IsFor items request call → IsForItem it r call
+pub calls_of : (items : List Device) (request : Request) (r : ItemRead) (it : Device) (call : Call) → request ≡ read_of r → slice_get items r.item ≡ Some it → IsFor items request call → IsForItem it r call
 calls_of items request r it call e at f =
     let g = subst (λ q. IsFor items q call) e f in
     subst (λ (z : Device). IsForItem z r call) (same_item g.0 it (sym g.1 ∙ at)) g.2
 
+-- the reply to a read whose answers are what is held
+pub defined_over : (items : List Device) (world : World) (old : Moment) (turn : Turn) (new : Moment) (h : Held) (r : ItemRead) (it : Device) (content : List ℕ)
+    → Step items world old turn new → request_of turn.frame ≡ read_of r → slice_get items r.item ≡ Some it → IsItem it → world r.item ≡ Some content
+    → IsWorld items world new.heard → AreServed h (heard_of turn.own) → HoldsDevice h it content → (Rose old.told.faults new.told.faults → ⊥) → IsDefined r content new.told.scarce turn.sent turn.cause
+defined_over items world old turn new h r it content step request at item is w truly holds calm =
+    let for : (call : Call) (said : Said) → IsIn call said (heard_of turn.own) → IsForItem it r call = λ call said i.
+    calls_of items _ r it call request at (each_heard (reads (IsFor items (request_of turn.frame))) turn.own step.calls call said i).1.0 in
+    defined items world _ h r it content at item is w truly holds for calm turn.sent turn.cause (row_of items world _ _ old.state new.state turn.sent turn.cause r request step.row)
+
 pub all_served : ReadsAreServed
-all_served items world old turn new h k r it content step request at item is w serves holds calm =
-    let for : (call : Call) (said : Said) → IsIn call said turn.own → IsForItem it r call = λ call said i. calls_of items _ r it call request at (step.calls call said i) in
-    let reading : (call : Call) (said : Said) → IsIn call said turn.own → IsReading call = λ call said i.
-    let f = for call said i in
+all_served items world old turn new h r it content step request at item is w told holds calm =
+    let reading : (call : Call) → IsFor items (request_of turn.frame) call → IsReading call = λ call i.
+    let f = calls_of items _ r it call request at i in
     rw f.path.call_is (page_reads it.layout it.measure.blocks f.path.level (ancestor f.block f.path.level)) in
-    let keeps = reads_keep turn.own h k serves reading in
-    (defined items world _ h r it content at item is w keeps.1 holds for calm turn.sent turn.cause (row_of items world _ _ old.state new.state turn.sent turn.cause r request step.row), keeps.0)
+    let after = subst (λ o. HeldAfter old.told.honest o turn.own new.told.held) told step.talked.held in
+    let keeps = reads_keep old.told.honest turn.own h after.0 after.2 (each_so (reads (IsFor items (request_of turn.frame))) (reads IsReading) turn.own (λ call given p. (reading call p.0, p.1)) step.calls) in
+    (defined_over items world old turn new h r it content step request at item is w keeps.1 holds calm, after.1 ∙ ap Some keeps.0)

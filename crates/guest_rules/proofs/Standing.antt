@@ -1,7 +1,7 @@
 -- A run in the world without contents is one in each world that meets the premises.
 use Rattle.std.proofs.Common.{◌≡◌, ℕ, List, [], ◌∷◌, ◌++◌, take, drop, refl, ap, sym, ◌∙◌, inl, inr, ⊎_elim, append_assoc, append-nil, Option, Some, None}
 use Rattle.std.specs.Prelude.{slice_get}
-use Rattle.host_traits.specs.Told.{Exchanges}
+use Rattle.host_traits.specs.Told.{Exchanges, heard_of}
 use Rattle.host_traits.specs.Did.{Trace}
 use Rattle.session_frames.specs.Replies.{Sent}
 use Rattle.sha_tree.specs.declared.measure.Measure.{Measure}
@@ -60,7 +60,7 @@ module _ (items : List Device) (world : World) where
   run_heard old [] new e = ([], ap (λ m. m.heard) (sym e) ∙ sym (append-nil old.heard))
   run_heard old (t ∷ turns) new r =
       let rest = run_heard r.0 turns new r.3 in
-      (t.own ++ rest.0, rest.1 ∙ ap (λ h. h ++ rest.0) r.2.heard ∙ append_assoc old.heard t.own rest.0)
+      (heard_of t.own ++ rest.0, rest.1 ∙ ap (λ h. h ++ rest.0) r.2.heard ∙ append_assoc old.heard (heard_of t.own) rest.0)
 
   run_in : (old : Moment) (turns : List Turn) (new : Moment) → IsWorld items world new.heard → Run items nowhere old turns new → Run items world old turns new
   run_in old [] new w e = e
@@ -70,12 +70,8 @@ module _ (items : List Device) (world : World) where
         r.0,
         r.1,
         record {
+          talked = r.2.talked;
           heard = r.2.heard;
-          counts = r.2.counts;
-          records = r.2.records;
-          place = r.2.place;
-          failures = r.2.failures;
-          scarce = r.2.scarce;
           calls = r.2.calls;
           few = r.2.few;
           row = row_in _ (request_of t.frame) old.state r.0.state t.sent t.cause w_mid r.2.row;

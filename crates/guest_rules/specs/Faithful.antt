@@ -1,7 +1,7 @@
 -- What a read of an item is answered where the host holds the item and no call fails.
 use Rattle.std.specs.Prelude.{Bool, true, ◌≡◌, ℕ, ◌^◌, ◌*◌, ◌<◌, ◌≤◌, List, length, take, drop, slice_get, Option, Some, None}
 use Rattle.host_traits.specs.Held.{Held, Disk, File}
-use Rattle.host_traits.specs.Told.{Told, Exchanges, Rose, Serves, heard_size}
+use Rattle.host_traits.specs.Told.{Told, Exchanges, Rose, heard_size}
 use Rattle.session_frames.specs.Frames.{Framed}
 use Rattle.session_frames.specs.Replies.{Sent, sent_bytes, sent_code}
 use Rattle.sha_tree.specs.declared.measure.Measure.{Measure}
@@ -48,10 +48,10 @@ pub data IsDefined (r : ItemRead) (content : List ℕ) (scarce : Bool) : Sent �
 -- Over a faithful host that holds an item as the world has it, a read of the item in which the count of failures doesn't
 -- rise has its defined reply, and what is held stays.
 abbrev pub ReadsAreServed : Type 0
-ReadsAreServed = (items : List Device) (world : World) (old : Moment) (turn : Turn) (new : Moment) (h k : Held) (r : ItemRead) (it : Device) (content : List ℕ)
+ReadsAreServed = (items : List Device) (world : World) (old : Moment) (turn : Turn) (new : Moment) (h : Held) (r : ItemRead) (it : Device) (content : List ℕ)
     → Step items world old turn new → request_of turn.frame ≡ read_of r → slice_get items r.item ≡ Some it → IsItem it → world r.item ≡ Some content
-    → IsWorld items world new.heard → Serves h turn.own k → HoldsDevice h it content → (Rose old.faults new.faults → ⊥)
-    → IsDefined r content new.scarce turn.sent turn.cause × (k ≡ h)
+    → IsWorld items world new.heard → old.told.held ≡ Some h → HoldsDevice h it content → (Rose old.told.faults new.told.faults → ⊥)
+    → IsDefined r content new.told.scarce turn.sent turn.cause × (new.told.held ≡ Some h)
 
 -- The same of what a host tells before a read of an item that is there and after it: in each world that meets the premises where
 -- all of this was heard, and where the host held the item before.

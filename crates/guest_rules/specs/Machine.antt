@@ -1,9 +1,7 @@
 -- The machine, its requests, and a moment of a run.
 use Rattle.std.specs.Prelude.{Bool, ◌≡◌, ℕ, ◌*◌, ◌≤◌, List, take, drop, slice_get, Option, Some, None, ◌==◌, if◌then◌else◌}
 use Rattle.std.specs.Int.{w32, w64, from_le_bytes}
-use Rattle.host_traits.specs.declared.calls.Call.{Call}
-use Rattle.host_traits.specs.declared.calls.TapeItem.{TapeItem}
-use Rattle.host_traits.specs.Told.{Told, Exchanges}
+use Rattle.host_traits.specs.Told.{Told, Exchanges, Made}
 use Rattle.session_frames.specs.Frames.{Framed}
 use Rattle.session_frames.specs.Replies.{Sent}
 use Rattle.verity_path.specs.Calls.{Suits}
@@ -45,24 +43,19 @@ pub data Request : Type 0 where
 abbrev pub request_of : Framed → Request
 request_of f = if f.channel == 1 then read_of (item_read f.payload) else unbuilt
 
--- a moment of a run: the machine, and what the host has told
+-- a moment of a run: the machine, all that was heard, and what the host tells
 pub record Moment : Type 0 where
   pub state : State
   pub heard : Exchanges
-  pub faults : ℕ
-  pub last_failed : Option Call
-  pub records : List TapeItem
-  pub place : ℕ
-  pub scarce : Bool
+  pub told : Told
 
--- a moment by what the host tells, where it tells what it said
 abbrev pub moment : State → Told → Exchanges → Moment
-moment state told heard = record { state = state; heard = heard; faults = told.faults; last_failed = told.last_failed; records = told.records; place = told.place; scarce = told.scarce }
+moment state told heard = record { state = state; heard = heard; told = told }
 
--- a frame, the answers to its own calls, the reply and its cause
+-- a frame, the calls that were made for it, failed ones too, the reply and its cause
 pub record Turn : Type 0 where
   pub frame : Framed
-  pub own : Exchanges
+  pub own : List Made
   pub sent : Sent
   pub cause : Option Cause
 

@@ -3,7 +3,7 @@ use Rattle.std.specs.Prelude.{◌≡◌, ◌^◌, ◌<◌, ◌+◌, ℕ, List, [
 use Rattle.std.specs.Fmt.{decimal}
 use Rattle.std.specs.Io.KnownBytes.{Appends}
 use Rattle.hex.specs.Hex.{encode_lower}
-use Rattle.host_traits.specs.Told.{Told, Exchanges, Talked, heard_size}
+use Rattle.host_traits.specs.Told.{Told, Exchanges, Made, Talked, heard_of, heard_size}
 use Rattle.session_frames.specs.Frames.{Framed, frame}
 use Rattle.session_frames.specs.Replies.{reply_frame}
 use Rattle.sha_tree.specs.Tree.{hash_input}
@@ -70,10 +70,14 @@ abbrev pub log_bytes : ℕ → List Turn → List ℕ
 log_bytes at [] = []
 log_bytes at (t ∷ turns) = log_line at t.cause ++ log_bytes (at + frame_size t.frame) turns
 
--- frames were answered in these turns: the turns are a run, and their exchanges are what was added to what was heard
+-- all calls of some turns
+abbrev pub calls_of : List Turn → List Made
+calls_of turns = flat_map (λ t. t.own) turns
+
+-- frames were answered in these turns: the turns are a run, and their calls are those that were made, and no other was
 pub record Runs (items : List Device) (old_state new_state : State) (old new : Told) (turns : List Turn) : Type 0 where
-  pub talked : Talked old new (flat_map (λ t. t.own) turns)
-  pub run : (heard : Exchanges) → old.heard ≡ Some heard → Run items nowhere (moment old_state old heard) turns (moment new_state new (heard ++ flat_map (λ t. t.own) turns))
+  pub talked : Talked old new (calls_of turns)
+  pub run : (heard : Exchanges) → old.heard ≡ Some heard → Run items nowhere (moment old_state old heard) turns (moment new_state new (heard ++ heard_of (calls_of turns)))
 
 -- the same from an offset on, and the replies and the lines of the log were written and nothing else
 pub record Ran (items : List Device) (old_state new_state : State) (old new : Told) (at : ℕ) (out_old out_new log_old log_new : Option (List ℕ)) (turns : List Turn) : Type 0 where

@@ -1,9 +1,8 @@
 -- One request of a run.
-use Rattle.std.specs.Prelude.{◌≡◌, ℕ, ◌≤◌, List, ◌++◌, slice_get, Option, Some, None, ◌⊎◌}
+use Rattle.std.specs.Prelude.{◌≡◌, ℕ, ◌≤◌, List, ◌++◌, length, slice_get, Option, Some, None}
 use Rattle.host_traits.specs.declared.calls.Call.{Call}
-use Rattle.host_traits.specs.declared.calls.Said.{Said}
-use Rattle.host_traits.specs.Told.{Told, Talked, Refuses, Exchanges}
-use Rattle.host_traits.specs.Did.{IsIn, Trace, byte_answers}
+use Rattle.host_traits.specs.Told.{Told, Talked, Made, Exchanges, heard_of}
+use Rattle.host_traits.specs.Did.{Trace, Each, reads}
 use Rattle.session_frames.specs.Frames.{Framed}
 use Rattle.session_frames.specs.Replies.{Sent}
 use Rattle.verity_path.specs.declared.device.Cause.{Cause}
@@ -17,7 +16,7 @@ abbrev pub IsFor : List Device → Request → Call → Type 0
 IsFor items (read_of r) call = (it : Device) × (slice_get items r.item ≡ Some it) × IsForItem it r call
 IsFor items unbuilt call = ⊥
 
--- the most answers of bytes that a request hears
+-- the most calls that a request makes, failed ones counted
 abbrev pub answers_of : Option Device → ItemRead → ℕ
 answers_of None r = 0
 answers_of (Some it) r = most_answers it.measure (size_of it) r.offset r.size
@@ -33,32 +32,19 @@ Row items world t unbuilt old new sent cause = ⊥
 
 -- the answers to a turn's own calls, after all that was heard before
 abbrev pub trace : Moment → Turn → Moment → Trace
-trace old turn new = record { heard = new.heard; own = turn.own; before = old.faults; after = new.faults; last_failed = new.last_failed; scarce = new.scarce }
+trace old turn new = record { heard = new.heard; own = heard_of turn.own; before = old.told.faults; after = new.told.faults; last_failed = new.told.last_failed; scarce = new.told.scarce }
 
--- a call failed: the tape's next record was a failure or of another kind, or there was none
-pub record WhyRefused (old new : Moment) : Type 0 where
-  pub call : Call
-  pub last : new.last_failed ≡ Some call
-  pub place : ℕ
-  pub from : old.place ≤ place
-  pub to : place ≤ new.place
-  pub refuses : Refuses old.records place call
-
--- one request, from a moment to the next
+-- one request, from a moment to the next: these calls were made, and no other; each belongs to the request; and what came of them
 pub record Step (items : List Device) (world : World) (old : Moment) (turn : Turn) (new : Moment) : Type 0 where
-  pub heard : new.heard ≡ old.heard ++ turn.own
-  pub counts : old.faults ≤ new.faults
-  pub records : new.records ≡ old.records
-  pub place : old.place ≤ new.place
-  pub failures : ((new.faults ≡ old.faults) × (new.last_failed ≡ old.last_failed)) ⊎ WhyRefused old new
-  pub scarce : new.scarce ≡ old.scarce
-  pub calls : (call : Call) (said : Said) → IsIn call said turn.own → IsFor items (request_of turn.frame) call
-  pub few : byte_answers turn.own ≤ most_for items (request_of turn.frame)
+  pub talked : Talked old.told new.told turn.own
+  pub heard : new.heard ≡ old.heard ++ heard_of turn.own
+  pub calls : Each (reads (IsFor items (request_of turn.frame))) turn.own
+  pub few : length turn.own ≤ most_for items (request_of turn.frame)
   pub row : Row items world (trace old turn new) (request_of turn.frame) old.state new.state turn.sent turn.cause
 
 -- a request was answered by its own calls
 pub record Stepped (items : List Device) (old_state new_state : State) (old new : Told) (frame : Framed) (sent : Sent) (cause : Option Cause) : Type 0 where
-  pub own : Exchanges
+  pub own : List Made
   pub talked : Talked old new own
   pub step : (heard : Exchanges) → old.heard ≡ Some heard
-      → Step items nowhere (moment old_state old heard) (record { frame = frame; own = own; sent = sent; cause = cause }) (moment new_state new (heard ++ own))
+      → Step items nowhere (moment old_state old heard) (record { frame = frame; own = own; sent = sent; cause = cause }) (moment new_state new (heard ++ heard_of own))

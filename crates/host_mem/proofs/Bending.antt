@@ -7,7 +7,7 @@ use Rattle.host_traits.specs.declared.calls.Said.{Said}
 use Rattle.host_traits.specs.declared.host.HostError.{HostError}
 use Rattle.host_traits.specs.declared.host.HostError.TheVariants.{Failed, Memory}
 use Rattle.host_traits.specs.Told.{Told, Asked, Answered, Refused, Unheard}
-use Rattle.host_traits.proofs.Talking.{answered, refused, unheard}
+use Rattle.host_traits.proofs.Talking.{asked_one, unheard}
 use Rattle.host_mem.specs.declared.bends.Bend.{Bend}
 use Rattle.host_mem.specs.declared.bends.Bend.TheVariants.{Fail, Number, Bytes, Flip}
 use Rattle.host_mem.specs.Mem.{Mem, mem_told}
@@ -23,10 +23,10 @@ asked_as call given said (Err Memory) old new is = is
 pub tells : {T : Type 0} (call : Call) (given : List ℕ) (said : T → Said) (r : Result T HostError) (a b : BendCount) → a.faults < 2 ^ 64 → b ≡ ended call (said_as said r) a → Asked call given said r (count_told a) (count_told b)
 tells call given said (Ok x) a b small is =
     subst (λ z. Answered call given (said x) (count_told a) (count_told z)) (sym is)
-    (answered call given (said x) (count_told a) (count_told (ended call (Ok (said x)) a)) refl refl refl refl refl (omega arith) refl refl)
+    (asked_one call given (Some (said x)) (count_told a) (count_told (ended call (Ok (said x)) a)) (omega arith) (omega arith) refl refl refl refl refl tt refl refl)
 tells call given said (Err Failed) a b small is =
     subst (λ z. Refused call given (count_told a) (count_told z)) (sym is)
-    (refused call given (count_told a) (count_told (ended call (Err Failed) a)) (omega (arith, small)) (omega (arith, small)) refl refl refl (inl (omega arith)) (λ honest. absurd (false≢true honest)) refl (omega arith) refl refl)
+    (asked_one call given None (count_told a) (count_told (ended call (Err Failed) a)) (omega (arith, small)) (omega (arith, small)) refl refl refl refl refl tt refl refl)
 tells call given said (Err Memory) a b small is =
     subst (λ z. Unheard (count_told a) (count_told z)) (sym is) (unheard (count_told a) refl)
 

@@ -96,17 +96,21 @@ reads_disk disks files dirs k sector count d is inside = rw (is, inside) refl
 pub disk_put : (old new : Entries DiskData) (files : Entries FileData) (dirs : Entries NameList) (k : ℕ) (d : DiskData) → Puts old new k d → held_of new files dirs ≡ with_disk (held_of old files dirs) k (disk_of d)
 disk_put old new files dirs k d is = ap (λ (disk : ℕ → Option Disk). record (held_of old files dirs) { disk = disk }) (fun_ext (mapped_update disk_of old new k d is))
 
-pub writes_disk : (old new : Entries DiskData) (files : Entries FileData) (dirs : Entries NameList) (k sector count : ℕ) (given : List ℕ) (d e : DiskData) → at old k ≡ Some d → nat_le (512 * sector + length given) (length (disk_of d).bytes) ≡ true
+pub writes_disk : (old new : Entries DiskData) (files : Entries FileData) (dirs : Entries NameList) (k sector count : ℕ) (given : List ℕ) (d e : DiskData) → 512 * (sector + count) ≡ 512 * sector + length given → at old k ≡ Some d → nat_le (512 * (sector + count)) (length (disk_of d).bytes) ≡ true
     → all_writable (disk_of d).writable (512 * sector) (length given) ≡ true → disk_of e ≡ record (disk_of d) { bytes = over (disk_of d).bytes (512 * sector) given } → Puts old new k e
     → serve (held_of old files dirs) (BlockWrite k sector count) given ≡ Some (Done, held_of new files dirs)
 unfolding serve
-writes_disk old new files dirs k sector count given d e there inside may is puts = rw (there, inside, may, disk_put old new files dirs k e puts, is) refl
+writes_disk old new files dirs k sector count given d e whole there inside may is puts =
+    let size : 512 * count ≡ length given = omega (arith, whole) in
+    rw (there, inside, size, may, disk_put old new files dirs k e puts, is) refl
 
 -- some byte of the range may not be written
-pub shut_disk : (disks : Entries DiskData) (files : Entries FileData) (dirs : Entries NameList) (k sector count : ℕ) (given : List ℕ) (d : DiskData) → at disks k ≡ Some d → nat_le (512 * sector + length given) (length (disk_of d).bytes) ≡ true
+pub shut_disk : (disks : Entries DiskData) (files : Entries FileData) (dirs : Entries NameList) (k sector count : ℕ) (given : List ℕ) (d : DiskData) → 512 * (sector + count) ≡ 512 * sector + length given → at disks k ≡ Some d → nat_le (512 * (sector + count)) (length (disk_of d).bytes) ≡ true
     → all_writable (disk_of d).writable (512 * sector) (length given) ≡ false → serve (held_of disks files dirs) (BlockWrite k sector count) given ≡ None
 unfolding serve
-shut_disk disks files dirs k sector count given d there inside shut = rw (there, inside, shut) refl
+shut_disk disks files dirs k sector count given d whole there inside shut =
+    let size : 512 * count ≡ length given = omega (arith, whole) in
+    rw (there, inside, size, shut) refl
 
 -- the sectors aren't all there
 pub past_disk : (disks : Entries DiskData) (files : Entries FileData) (dirs : Entries NameList) (k sector count : ℕ) (d : DiskData) → at disks k ≡ Some d → nat_le (512 * (sector + count)) (length (disk_of d).bytes) ≡ false
@@ -118,7 +122,7 @@ unwritten_at : (disks : Entries DiskData) (files : Entries FileData) (dirs : Ent
     → serve (held_of disks files dirs) (BlockWrite k sector count) given ≡ None
 unfolding serve
 unwritten_at disks files dirs None k sector count given is whole past = rw is refl
-unwritten_at disks files dirs (Some d) k sector count given is whole past = rw (is, rw whole at past) refl
+unwritten_at disks files dirs (Some d) k sector count given is whole past = rw (is, past) refl
 
 pub unwritten : (disks : Entries DiskData) (files : Entries FileData) (dirs : Entries NameList) (k sector count : ℕ) (given : List ℕ) → 512 * (sector + count) ≡ 512 * sector + length given → covers (at disks k) sector count ≡ false
     → serve (held_of disks files dirs) (BlockWrite k sector count) given ≡ None

@@ -7,8 +7,8 @@ use Rattle.host_traits.specs.declared.host.HostError.{HostError}
 use Rattle.host_traits.specs.declared.host.HostError.TheVariants.{Failed, Memory}
 use Rattle.host_traits.specs.Held.{Held, serve}
 use Rattle.host_traits.specs.Told.{Asked, Answered, Refused, Unheard}
-use Rattle.host_traits.proofs.Talking.{answered, refused, unheard}
-use Rattle.host_mem.specs.Mem.{Count, Mem, Begins, Ends, Does, FailsBy, is_listed, is_none, counted, failed, told_by, mem_held}
+use Rattle.host_traits.proofs.Talking.{asked_one, unheard}
+use Rattle.host_mem.specs.Mem.{Count, Mem, Begins, Ends, Does, FailsBy, IsNumbered, is_listed, is_none, counted, failed, told_by, mem_held}
 
 -- some number is listed
 listed_some : (t : Count) → is_listed t ≡ true → is_none t.failing ≡ true → ⊥
@@ -20,7 +20,7 @@ listed_some t listed none = by_list t.failing listed none where
 one_failure : (h : Held) (a b : Count) (call : Call) (given : List ℕ) → a.faults < 2 ^ 64 → (is_none a.failing ≡ true → serve h call given ≡ None)
     → b.faults ≡ min (a.faults + 1) (2 ^ 64 - 1) → b.last_failed ≡ Some call → b.failing ≡ a.failing → Refused call given (told_by h a) (told_by h b)
 one_failure h a b call given fits may faults last failing =
-    refused call given (told_by h a) (told_by h b) (omega (arith, faults)) (omega (arith, faults)) last refl refl (inl (omega arith)) may refl (omega arith) refl (ap is_none failing)
+    asked_one call given None (told_by h a) (told_by h b) (omega (arith, faults, fits)) (omega (arith, faults, fits)) last refl refl (h, refl, (refl, may)) refl tt refl (ap is_none failing)
 
 -- a call whose number is listed
 pub listed : (call : Call) (given : List ℕ) (h : Held) (a b : Count) → Begins call true a b → Refused call given (told_by h a) (told_by h b)
@@ -32,7 +32,7 @@ pub done : {T : Type 0} (call : Call) (given : List ℕ) (said : T → Said) (r 
     → Asked call given said r (told_by h a) (told_by k c)
 done call given said (Ok x) h k a b c begun does ended =
     subst (λ z. Answered call given (said x) (told_by h a) (told_by k z)) (sym (ended ∙ begun.1))
-    (answered call given (said x) (told_by h a) (told_by k (counted a)) refl refl refl (k, refl, does) refl (omega arith) refl refl)
+    (asked_one call given (Some (said x)) (told_by h a) (told_by k (counted a)) (omega arith) (omega arith) refl refl refl (k, refl, does) refl tt refl refl)
 done call given said (Err Failed) h k a b c begun does ended =
     let now : c ≡ failed (counted a) call = ended.0 ∙ ap (λ z. failed z call) begun.1 in
     let fits : a.faults < 2 ^ 64 = rw begun.1 at ended.1 in
@@ -46,3 +46,12 @@ pub fails_done : {T : Type 0} (call : Call) (given : List ℕ) (said : T → Sai
 fails_done call given said (Ok x) m k b begun does = begun.0
 fails_done call given said (Err Failed) m k b begun does = inr does.0
 fails_done call given said (Err Memory) m k b begun does = begun.0
+
+-- each is counted
+pub listed_counts : (call : Call) (a b : Count) → Begins call true a b → IsNumbered a b
+listed_counts call a b begun = subst (IsNumbered a) (sym begun.1) (record { calls = refl; failing = refl })
+
+pub done_counts : {T : Type 0} (call : Call) (r : Result T HostError) (a b c : Count) → Begins call false a b → Ends call r b c → IsNumbered a c
+done_counts call (Ok x) a b c begun ended = subst (IsNumbered a) (sym (ended ∙ begun.1)) (record { calls = refl; failing = refl })
+done_counts call (Err Failed) a b c begun ended = subst (IsNumbered a) (sym (ended.0 ∙ ap (λ z. failed z call) begun.1)) (record { calls = refl; failing = refl })
+done_counts call (Err Memory) a b c begun ended = subst (IsNumbered a) (sym (ended ∙ begun.1)) (record { calls = refl; failing = refl })

@@ -76,9 +76,9 @@ count_told b = record {
   faults = b.faults;
   last_failed = b.last_failed;
   heard = None;
+  made = None;
   held = None;
-  records = [];
-  place = 0;
+  ahead = None;
   scarce = true;
   honest = false;
 }

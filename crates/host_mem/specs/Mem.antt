@@ -183,9 +183,9 @@ told_by held t = record {
   faults = t.faults;
   last_failed = t.last_failed;
   heard = None;
+  made = None;
   held = Some held;
-  records = [];
-  place = 0;
+  ahead = None;
   scarce = true;
   honest = is_none t.failing;
 }
@@ -223,3 +223,8 @@ abbrev pub FailsBy : {T : Type 0} → Call → List ℕ → Result T HostError �
 FailsBy call given (Ok x) old = is_listed old.count ≡ false
 FailsBy call given (Err Failed) old = (is_listed old.count ≡ true) ⊎ (serve (mem_held old) call given ≡ None)
 FailsBy call given (Err Memory) old = is_listed old.count ≡ false
+
+-- each call is counted, whatever comes of it, and the list of those that are to fail stays
+pub record IsNumbered (old new : Count) : Type 0 where
+  pub calls : new.calls ≡ one_more old.calls
+  pub failing : new.failing ≡ old.failing

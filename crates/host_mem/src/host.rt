@@ -9,7 +9,7 @@ ghost use Rattle.host_traits.specs.Told.{Asked, Fills, Told, IsHeardSize};
 ghost use Rattle.composite_spec.specs.Said.{IsComposite, composite};
 ghost use Rattle.block_map.specs.Disk.{contents};
 ghost use Rattle.host_mem.specs.Made.{RefusesAlias, composite_disk, nothing, plain_disk, verity_file, with_disk};
-ghost use Rattle.host_mem.specs.Mem.{FailsBy, mem_held, mem_told, unused};
+ghost use Rattle.host_mem.specs.Mem.{FailsBy, IsNumbered, mem_held, mem_told, unused};
 
 use crate::count::Tally;
 use crate::fault::CompositeFault;
@@ -220,6 +220,7 @@ impl Host for MemHost {
     fn block_size(&mut self, disk: u32) -> Result<u64, HostError>
         ensures asked { Asked (BlockSize disk) [] (λ n. Number n) result (mem_told self.old) (mem_told self.new) }
         ensures fails { FailsBy (BlockSize disk) [] result self.old }
+        ensures counts { IsNumbered self.old.count self.new.count }
     {
         let call = Call::BlockSize { disk };
         if self.tally.begin(call) {
@@ -241,6 +242,7 @@ impl Host for MemHost {
         ensures asked { Asked (BlockRead disk sector count) [] (λ _. Bytes raw.new) result (mem_told self.old) (mem_told self.new) }
         ensures fills { Fills (512 * count) result raw.new }
         ensures fails { FailsBy (BlockRead disk sector count) [] result self.old }
+        ensures counts { IsNumbered self.old.count self.new.count }
     {
         let call = Call::BlockRead {
             disk,
@@ -261,6 +263,7 @@ impl Host for MemHost {
         requires most { length bytes.now ≤ 69632 }
         ensures asked { Asked (BlockWrite disk sector (length bytes.now / 512)) bytes.now (λ _. Done) result (mem_told self.old) (mem_told self.new) }
         ensures fails { FailsBy (BlockWrite disk sector (length bytes.now / 512)) bytes.now result self.old }
+        ensures counts { IsNumbered self.old.count self.new.count }
     {
         let count = (bytes.len() / 512) as u32;
         let call = Call::BlockWrite {
@@ -279,6 +282,7 @@ impl Host for MemHost {
     fn block_sync(&mut self, disk: u32) -> Result<(), HostError>
         ensures asked { Asked (BlockSync disk) [] (λ _. Done) result (mem_told self.old) (mem_told self.new) }
         ensures fails { FailsBy (BlockSync disk) [] result self.old }
+        ensures counts { IsNumbered self.old.count self.new.count }
     {
         let call = Call::BlockSync { disk };
         if self.tally.begin(call) {
@@ -294,6 +298,7 @@ impl Host for MemHost {
         ensures asked { Asked (FileRead file at want) [] (λ _. Bytes raw.new) result (mem_told self.old) (mem_told self.new) }
         ensures fills { Fills want result raw.new }
         ensures fails { FailsBy (FileRead file at want) [] result self.old }
+        ensures counts { IsNumbered self.old.count self.new.count }
     {
         let call = Call::FileRead { file, at, want };
         raw.clear();
@@ -315,6 +320,7 @@ impl Host for MemHost {
         ensures asked { Asked (TreeRead file level index) [] (λ _. Bytes raw.new) result (mem_told self.old) (mem_told self.new) }
         ensures fills { Fills 4096 result raw.new }
         ensures fails { FailsBy (TreeRead file level index) [] result self.old }
+        ensures counts { IsNumbered self.old.count self.new.count }
     {
         let call = Call::TreeRead { file, level, index };
         raw.clear();
@@ -330,6 +336,7 @@ impl Host for MemHost {
         ensures asked { Asked (Descriptor file) [] (λ _. Bytes raw.new) result (mem_told self.old) (mem_told self.new) }
         ensures fills { Fills 256 result raw.new }
         ensures fails { FailsBy (Descriptor file) [] result self.old }
+        ensures counts { IsNumbered self.old.count self.new.count }
     {
         let call = Call::Descriptor { file };
         raw.clear();
@@ -346,6 +353,7 @@ impl Host for MemHost {
         requires end { at + length bytes.now ≤ 2 ^ 32 }
         ensures asked { Asked (FileWrite file at (length bytes.now)) bytes.now (λ _. Done) result (mem_told self.old) (mem_told self.new) }
         ensures fails { FailsBy (FileWrite file at (length bytes.now)) bytes.now result self.old }
+        ensures counts { IsNumbered self.old.count self.new.count }
     {
         let count = bytes.len() as u32;
         let call = Call::FileWrite { file, at, count };
@@ -367,6 +375,7 @@ impl Host for MemHost {
         requires { length bytes.now ≡ 4096 }
         ensures asked { Asked (TreeWrite file level index) bytes.now (λ _. Done) result (mem_told self.old) (mem_told self.new) }
         ensures fails { FailsBy (TreeWrite file level index) bytes.now result self.old }
+        ensures counts { IsNumbered self.old.count self.new.count }
     {
         let call = Call::TreeWrite { file, level, index };
         if self.tally.begin(call) {
@@ -381,6 +390,7 @@ impl Host for MemHost {
         requires { size ≤ 2 ^ 32 }
         ensures asked { Asked (Resize file size) [] (λ _. Done) result (mem_told self.old) (mem_told self.new) }
         ensures fails { FailsBy (Resize file size) [] result self.old }
+        ensures counts { IsNumbered self.old.count self.new.count }
     {
         let call = Call::Resize { file, size };
         if self.tally.begin(call) {
@@ -394,6 +404,7 @@ impl Host for MemHost {
     fn file_create(&mut self, dir: u32, name: &[u8], file: u32) -> Result<(), HostError>
         ensures asked { Asked (Create dir file) name.now (λ _. Done) result (mem_told self.old) (mem_told self.new) }
         ensures fails { FailsBy (Create dir file) name.now result self.old }
+        ensures counts { IsNumbered self.old.count self.new.count }
     {
         let call = Call::Create { dir, file };
         if self.tally.begin(call) {
@@ -407,6 +418,7 @@ impl Host for MemHost {
     fn file_mkdir(&mut self, dir: u32, name: &[u8], file: u32) -> Result<(), HostError>
         ensures asked { Asked (Mkdir dir file) name.now (λ _. Done) result (mem_told self.old) (mem_told self.new) }
         ensures fails { FailsBy (Mkdir dir file) name.now result self.old }
+        ensures counts { IsNumbered self.old.count self.new.count }
     {
         let call = Call::Mkdir { dir, file };
         if self.tally.begin(call) {
@@ -420,6 +432,7 @@ impl Host for MemHost {
     fn file_delete(&mut self, dir: u32, name: &[u8]) -> Result<(), HostError>
         ensures asked { Asked (Delete dir) name.now (λ _. Done) result (mem_told self.old) (mem_told self.new) }
         ensures fails { FailsBy (Delete dir) name.now result self.old }
+        ensures counts { IsNumbered self.old.count self.new.count }
     {
         let call = Call::Delete { dir };
         if self.tally.begin(call) {

@@ -7,7 +7,7 @@ use Rattle.host_traits.specs.declared.calls.TapeItem.{TapeItem}
 use Rattle.host_traits.specs.declared.calls.TapeItem.TheVariants.{Failed as ItemFailed, Number, Bytes, Done}
 use Rattle.host_traits.specs.declared.host.HostError.{HostError}
 use Rattle.host_traits.specs.declared.host.HostError.TheVariants.{Failed, Memory}
-use Rattle.host_traits.specs.Told.{Told, Exchanges}
+use Rattle.host_traits.specs.Told.{Told, Talked, Answered, Refused, Calls, Exchanges, exchange_of, one_failure, failed_by}
 
 -- the calls that were passed on and didn't end for want of memory, and beside each the record that answers it
 pub record Kept : Type 0 where
@@ -35,12 +35,16 @@ item_of (SaidNumber n) = Number n
 item_of (SaidBytes bytes) = Bytes bytes
 item_of SaidDone = Done
 
+-- what came of a call, by its record: its answer, or None where it failed
+abbrev pub came_by : TapeItem → Option Said
+came_by ItemFailed = None
+came_by (Number n) = Some (SaidNumber n)
+came_by (Bytes bytes) = Some (SaidBytes bytes)
+came_by Done = Some SaidDone
+
 -- the exchange of a call and its record: none where it failed
 abbrev pub exchange : Call → TapeItem → Exchanges
-exchange call ItemFailed = []
-exchange call (Number n) = (call, SaidNumber n) ∷ []
-exchange call (Bytes bytes) = (call, SaidBytes bytes) ∷ []
-exchange call Done = (call, SaidDone) ∷ []
+exchange call item = exchange_of call (came_by item)
 
 -- what was heard: each call that was answered, with its answer
 abbrev pub exchanges : List Call → List TapeItem → Exchanges
@@ -51,36 +55,35 @@ exchanges (call ∷ calls) (item ∷ items) = exchange call item ++ exchanges ca
 abbrev pub heard_by : Kept → Exchanges
 heard_by k = exchanges k.calls k.items
 
+-- the calls, with what came of each
+abbrev pub calls_in : List Call → List TapeItem → Calls
+calls_in [] items = []
+calls_in (call ∷ calls) [] = []
+calls_in (call ∷ calls) (item ∷ items) = (call, came_by item) ∷ calls_in calls items
+
 -- how many of the records are failures
 abbrev pub failure : TapeItem → ℕ
-failure ItemFailed = 1
-failure (Number n) = 0
-failure (Bytes bytes) = 0
-failure Done = 0
+failure item = one_failure (came_by item)
 
 abbrev pub failures : List TapeItem → ℕ
 failures [] = 0
 failures (item ∷ items) = failure item + failures items
 
 -- the last call that failed, where one did before these calls
-abbrev pub failed_by : Option Call → Call → TapeItem → Option Call
-failed_by before call ItemFailed = Some call
-failed_by before call (Number n) = before
-failed_by before call (Bytes bytes) = before
-failed_by before call Done = before
-
 abbrev pub last_failed_in : Option Call → List Call → List TapeItem → Option Call
 last_failed_in before [] items = before
 last_failed_in before (call ∷ calls) [] = before
-last_failed_in before (call ∷ calls) (item ∷ items) = last_failed_in (failed_by before call item) calls items
+last_failed_in before (call ∷ calls) (item ∷ items) = last_failed_in (failed_by before call (came_by item)) calls items
 
--- what was heard, how often a call failed and which was the last to, all by what was kept; and what the host behind tells of
--- the rest
+-- the calls and what came of each, what was heard, how often a call failed and which was the last to, all by what was kept; and
+-- what the host behind tells of what it holds, and whether it is honest. It is no tape, whatever stands behind it.
 abbrev pub told_with : Told → Kept → Told
 told_with t k = record t {
   faults = min (failures k.items) (2 ^ 64 - 1);
   last_failed = last_failed_in None k.calls k.items;
   heard = Some (heard_by k);
+  made = Some (calls_in k.calls k.items);
+  ahead = None;
   scarce = true;
 }
 
@@ -89,3 +92,10 @@ abbrev pub Keeps : {T : Type 0} → Call → (T → Said) → Result T HostError
 Keeps call said (Ok x) old new = new ≡ and old call (item_of (said x))
 Keeps call said (Err Failed) old new = new ≡ and old call ItemFailed
 Keeps call said (Err Memory) old new = new ≡ old
+
+-- One call of a recorder is one call of the host behind it, with the same outcome; where that is want of memory, nothing is told of
+-- it there, or it was not passed on.
+abbrev pub Passed : {T : Type 0} → Call → List ℕ → (T → Said) → Result T HostError → Told → Told → Type 0
+Passed call given said (Ok x) old new = Answered call given (said x) old new
+Passed call given said (Err Failed) old new = Refused call given old new
+Passed call given said (Err Memory) old new = Talked old new []

@@ -4,7 +4,7 @@ ghost use Rattle.host_traits.specs.declared.calls.Call.TheVariants.{BlockSize, B
 ghost use Rattle.host_traits.specs.declared.calls.Said.TheVariants.{Number, Bytes, Done};
 ghost use Rattle.host_traits.specs.Told.{Asked, Fills, Told, IsHeardSize};
 ghost use Rattle.host_tape.specs.Tape.{tape_bytes, IsTape};
-ghost use Rattle.host_rec.specs.Recorded.{Keeps, failures, nothing, told_with};
+ghost use Rattle.host_rec.specs.Recorded.{Keeps, Passed, failures, nothing, told_with};
 
 use crate::kept::Records;
 use host_traits::{Call, Host, HostError, Raw};
@@ -79,6 +79,7 @@ impl<H: Host> Host for Recorder<H> {
 
     fn block_size(&mut self, disk: u32) -> Result<u64, HostError>
         ensures asked { Asked (BlockSize disk) [] (λ n. Number n) result (told_with (H.told self.old.host) self.old.kept) (told_with (H.told self.new.host) self.new.kept) }
+        ensures passed { Passed (BlockSize disk) [] (λ n. Number n) result (H.told self.old.host) (H.told self.new.host) }
         ensures kept { Keeps (BlockSize disk) (λ n. Number n) result self.old.kept self.new.kept }
     {
         self.records.reserve(9)?;
@@ -91,6 +92,7 @@ impl<H: Host> Host for Recorder<H> {
         requires whole { length bytes.now % 512 ≡ 0 }
         requires most { length bytes.now ≤ 69632 }
         ensures asked { Asked (BlockWrite disk sector (length bytes.now / 512)) bytes.now (λ _. Done) result (told_with (H.told self.old.host) self.old.kept) (told_with (H.told self.new.host) self.new.kept) }
+        ensures passed { Passed (BlockWrite disk sector (length bytes.now / 512)) bytes.now (λ _. Done) result (H.told self.old.host) (H.told self.new.host) }
         ensures kept { Keeps (BlockWrite disk sector (length bytes.now / 512)) (λ _. Done) result self.old.kept self.new.kept }
     {
         let count = (bytes.len() / 512) as u32;
@@ -109,6 +111,7 @@ impl<H: Host> Host for Recorder<H> {
 
     fn block_sync(&mut self, disk: u32) -> Result<(), HostError>
         ensures asked { Asked (BlockSync disk) [] (λ _. Done) result (told_with (H.told self.old.host) self.old.kept) (told_with (H.told self.new.host) self.new.kept) }
+        ensures passed { Passed (BlockSync disk) [] (λ _. Done) result (H.told self.old.host) (H.told self.new.host) }
         ensures kept { Keeps (BlockSync disk) (λ _. Done) result self.old.kept self.new.kept }
     {
         self.records.reserve(1)?;
@@ -121,6 +124,7 @@ impl<H: Host> Host for Recorder<H> {
         requires most { length bytes.now ≤ 4096 }
         requires end { at + length bytes.now ≤ 2 ^ 32 }
         ensures asked { Asked (FileWrite file at (length bytes.now)) bytes.now (λ _. Done) result (told_with (H.told self.old.host) self.old.kept) (told_with (H.told self.new.host) self.new.kept) }
+        ensures passed { Passed (FileWrite file at (length bytes.now)) bytes.now (λ _. Done) result (H.told self.old.host) (H.told self.new.host) }
         ensures kept { Keeps (FileWrite file at (length bytes.now)) (λ _. Done) result self.old.kept self.new.kept }
     {
         let count = bytes.len() as u32;
@@ -140,6 +144,7 @@ impl<H: Host> Host for Recorder<H> {
     ) -> Result<(), HostError>
         requires { length bytes.now ≡ 4096 }
         ensures asked { Asked (TreeWrite file level index) bytes.now (λ _. Done) result (told_with (H.told self.old.host) self.old.kept) (told_with (H.told self.new.host) self.new.kept) }
+        ensures passed { Passed (TreeWrite file level index) bytes.now (λ _. Done) result (H.told self.old.host) (H.told self.new.host) }
         ensures kept { Keeps (TreeWrite file level index) (λ _. Done) result self.old.kept self.new.kept }
     {
         self.records.reserve(1)?;
@@ -152,6 +157,7 @@ impl<H: Host> Host for Recorder<H> {
     fn file_resize(&mut self, file: u32, size: u64) -> Result<(), HostError>
         requires { size ≤ 2 ^ 32 }
         ensures asked { Asked (Resize file size) [] (λ _. Done) result (told_with (H.told self.old.host) self.old.kept) (told_with (H.told self.new.host) self.new.kept) }
+        ensures passed { Passed (Resize file size) [] (λ _. Done) result (H.told self.old.host) (H.told self.new.host) }
         ensures kept { Keeps (Resize file size) (λ _. Done) result self.old.kept self.new.kept }
     {
         self.records.reserve(1)?;
@@ -162,6 +168,7 @@ impl<H: Host> Host for Recorder<H> {
 
     fn file_create(&mut self, dir: u32, name: &[u8], file: u32) -> Result<(), HostError>
         ensures asked { Asked (Create dir file) name.now (λ _. Done) result (told_with (H.told self.old.host) self.old.kept) (told_with (H.told self.new.host) self.new.kept) }
+        ensures passed { Passed (Create dir file) name.now (λ _. Done) result (H.told self.old.host) (H.told self.new.host) }
         ensures kept { Keeps (Create dir file) (λ _. Done) result self.old.kept self.new.kept }
     {
         self.records.reserve(1)?;
@@ -172,6 +179,7 @@ impl<H: Host> Host for Recorder<H> {
 
     fn file_mkdir(&mut self, dir: u32, name: &[u8], file: u32) -> Result<(), HostError>
         ensures asked { Asked (Mkdir dir file) name.now (λ _. Done) result (told_with (H.told self.old.host) self.old.kept) (told_with (H.told self.new.host) self.new.kept) }
+        ensures passed { Passed (Mkdir dir file) name.now (λ _. Done) result (H.told self.old.host) (H.told self.new.host) }
         ensures kept { Keeps (Mkdir dir file) (λ _. Done) result self.old.kept self.new.kept }
     {
         self.records.reserve(1)?;
@@ -182,6 +190,7 @@ impl<H: Host> Host for Recorder<H> {
 
     fn file_delete(&mut self, dir: u32, name: &[u8]) -> Result<(), HostError>
         ensures asked { Asked (Delete dir) name.now (λ _. Done) result (told_with (H.told self.old.host) self.old.kept) (told_with (H.told self.new.host) self.new.kept) }
+        ensures passed { Passed (Delete dir) name.now (λ _. Done) result (H.told self.old.host) (H.told self.new.host) }
         ensures kept { Keeps (Delete dir) (λ _. Done) result self.old.kept self.new.kept }
     {
         self.records.reserve(1)?;
@@ -199,6 +208,7 @@ impl<H: Host> Host for Recorder<H> {
     ) -> Result<(), HostError>
         requires { count ≤ 136 }
         ensures asked { Asked (BlockRead disk sector count) [] (λ _. Bytes raw.new) result (told_with (H.told self.old.host) self.old.kept) (told_with (H.told self.new.host) self.new.kept) }
+        ensures passed { Passed (BlockRead disk sector count) [] (λ _. Bytes raw.new) result (H.told self.old.host) (H.told self.new.host) }
         ensures fills { Fills (512 * count) result raw.new }
         ensures kept { Keeps (BlockRead disk sector count) (λ _. Bytes raw.new) result self.old.kept self.new.kept }
     {
@@ -220,6 +230,7 @@ impl<H: Host> Host for Recorder<H> {
     fn file_read(&mut self, file: u32, at: u64, want: u32, raw: &mut Raw) -> Result<(), HostError>
         requires { want ≤ 69632 }
         ensures asked { Asked (FileRead file at want) [] (λ _. Bytes raw.new) result (told_with (H.told self.old.host) self.old.kept) (told_with (H.told self.new.host) self.new.kept) }
+        ensures passed { Passed (FileRead file at want) [] (λ _. Bytes raw.new) result (H.told self.old.host) (H.told self.new.host) }
         ensures fills { Fills want result raw.new }
         ensures kept { Keeps (FileRead file at want) (λ _. Bytes raw.new) result self.old.kept self.new.kept }
     {
@@ -239,6 +250,7 @@ impl<H: Host> Host for Recorder<H> {
         raw: &mut Raw,
     ) -> Result<(), HostError>
         ensures asked { Asked (TreeRead file level index) [] (λ _. Bytes raw.new) result (told_with (H.told self.old.host) self.old.kept) (told_with (H.told self.new.host) self.new.kept) }
+        ensures passed { Passed (TreeRead file level index) [] (λ _. Bytes raw.new) result (H.told self.old.host) (H.told self.new.host) }
         ensures fills { Fills 4096 result raw.new }
         ensures kept { Keeps (TreeRead file level index) (λ _. Bytes raw.new) result self.old.kept self.new.kept }
     {
@@ -252,6 +264,7 @@ impl<H: Host> Host for Recorder<H> {
 
     fn file_descriptor(&mut self, file: u32, raw: &mut Raw) -> Result<(), HostError>
         ensures asked { Asked (Descriptor file) [] (λ _. Bytes raw.new) result (told_with (H.told self.old.host) self.old.kept) (told_with (H.told self.new.host) self.new.kept) }
+        ensures passed { Passed (Descriptor file) [] (λ _. Bytes raw.new) result (H.told self.old.host) (H.told self.new.host) }
         ensures fills { Fills 256 result raw.new }
         ensures kept { Keeps (Descriptor file) (λ _. Bytes raw.new) result self.old.kept self.new.kept }
     {

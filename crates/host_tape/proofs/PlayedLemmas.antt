@@ -1,14 +1,15 @@
 -- One call more on a tape.
 use Rattle.std.proofs.Common.{length-append, ◌≡◌, ℕ, ◌+◌, ◌-◌, ◌^◌, ◌<◌, ◌≤◌, min, List, [], ◌∷◌, ◌++◌, length, refl, ap, sym, ◌∙◌, append_assoc, append-nil, inl, inr, arith, Option, Some, None}
 use Rattle.std.proofs.lemmas.Option.{slice_get_within}
-use Rattle.std.specs.Prelude.{slice_get, false, true}
+use Rattle.std.specs.Prelude.{slice_get, drop, zero, suc, false, true}
+use Rattle.std.proofs.lemmas.List.{drop-drop, drop_all}
 use Rattle.host_traits.specs.declared.calls.Call.{Call}
 use Rattle.host_traits.specs.declared.calls.Said.{Said}
 use Rattle.host_traits.specs.declared.calls.TapeItem.{TapeItem}
 use Rattle.host_traits.specs.declared.calls.TapeItem.TheVariants.{Bytes, Done, Number, Failed}
-use Rattle.host_traits.specs.Told.{Answered, Refused, Refuses, Exchanges, answer_of, kind_of, kind_bytes, kind_number, kind_done, heard_size, said_size}
-use Rattle.host_traits.proofs.Talking.{answered, refused}
-use Rattle.host_tape.specs.Played.{Played, IsPlayed, tape_told, recited, exchange_of, failures, one_failure, last_failure, later_failure, or_else}
+use Rattle.host_traits.specs.Told.{Answered, Refused, Exchanges, and_more, behind, taken_one, next_answer, exchange_of, one_failure, answer_of, kind_of, kind_bytes, kind_number, kind_done, heard_size, said_size}
+use Rattle.host_traits.proofs.Talking.{asked_one}
+use Rattle.host_tape.specs.Played.{Played, IsPlayed, Refuses, tape_told, recited, came_of, failures, last_failure, later_failure, or_else}
 
 some_is : {s r : TapeItem} → Some s ≡ Some r → s ≡ r
 some_is e = cc
@@ -20,6 +21,20 @@ recited-next [] [] call r at = cc
 recited-next [] (s ∷ records) call r at = rw append-nil (ap (λ x. exchange_of call (answer_of (kind_of call) x)) (some_is at))
 recited-next (c ∷ calls) [] call r at = cc
 recited-next (c ∷ calls) (s ∷ records) call r at = rw (recited-next calls records call r at) (sym (append_assoc (exchange_of c (answer_of (kind_of c) s)) (recited calls records) (exchange_of call (answer_of (kind_of call) r))))
+
+came_of-next : (calls : List Call) (records : List TapeItem) (call : Call) (r : TapeItem) → slice_get records (length calls) ≡ Some r
+    → came_of (calls ++ call ∷ []) records ≡ came_of calls records ++ (call, answer_of (kind_of call) r) ∷ []
+came_of-next [] [] call r at = cc
+came_of-next [] (s ∷ records) call r at = ap (λ x. (call, answer_of (kind_of call) x) ∷ []) (some_is at)
+came_of-next (c ∷ calls) [] call r at = cc
+came_of-next (c ∷ calls) (s ∷ records) call r at = ap (λ z. (c, answer_of (kind_of c) s) ∷ z) (came_of-next calls records call r at)
+
+-- the records that are left begin with the next one
+drop_at : (records : List TapeItem) (n : ℕ) (r : TapeItem) → slice_get records n ≡ Some r → drop n records ≡ r ∷ drop (suc n) records
+drop_at [] zero r at = cc
+drop_at [] (suc n) r at = cc
+drop_at (s ∷ records) zero r at = ap (λ x. x ∷ records) (some_is at)
+drop_at (s ∷ records) (suc n) r at = drop_at records n r at
 
 pub failures-next : (calls : List Call) (records : List TapeItem) (call : Call) (r : TapeItem) → slice_get records (length calls) ≡ Some r
     → failures (calls ++ call ∷ []) records ≡ failures calls records + one_failure (answer_of (kind_of call) r)
@@ -82,41 +97,58 @@ counted-refusal records calls room count size last call r p at none =
       sizes = p.sizes ∙ ap (λ h. min (heard_size h) (2 ^ 64 - 1)) (sym recites);
     }
 
+-- one record less is ahead
+ahead-next : (calls : List Call) (records : List TapeItem) (call : Call) → Some (drop (length (calls ++ call ∷ [])) records) ≡ behind (Some (drop (length calls) records))
+ahead-next calls records call = ap (λ n. Some (drop n records)) (length-append calls (call ∷ [])) ∙ ap Some (sym (drop-drop 1 (length calls) records))
+
+-- a call that took a record
+module _ (p : Played) (call : Call) (given : List ℕ) (r : TapeItem) (came : Option Said) (at : slice_get p.records (length p.calls) ≡ Some r) (is : answer_of (kind_of call) r ≡ came) where
+  made-next : Some (came_of (p.calls ++ call ∷ []) p.records) ≡ and_more (Some (came_of p.calls p.records)) (taken_one (Some (drop (length p.calls) p.records)) call came)
+  made-next = ap Some (came_of-next p.calls p.records call r at ∙ ap (λ x. came_of p.calls p.records ++ (call, x) ∷ []) is
+      ∙ ap (λ z. came_of p.calls p.records ++ taken_one (Some z) call came) (sym (drop_at p.records (length p.calls) r at)))
+
+  plays-next : came ≡ next_answer (drop (length p.calls) p.records) call
+  plays-next = sym is ∙ ap (λ z. next_answer z call) (sym (drop_at p.records (length p.calls) r at))
+
+  heard-next : recited (p.calls ++ call ∷ []) p.records ≡ recited p.calls p.records ++ exchange_of call came
+  heard-next = recited-next p.calls p.records call r at ∙ ap (λ x. recited p.calls p.records ++ exchange_of call x) is
+
+  fails-next : failures (p.calls ++ call ∷ []) p.records ≡ failures p.calls p.records + one_failure came
+  fails-next = failures-next p.calls p.records call r at ∙ ap (λ x. failures p.calls p.records + one_failure x) is
+
 -- a record that answers
 pub played-answer : (p : Played) (call : Call) (given : List ℕ) (r : TapeItem) (said : Said) → slice_get p.records (length p.calls) ≡ Some r
     → answer_of (kind_of call) r ≡ Some said → Answered call given said (tape_told p) (tape_told (record p { calls = p.calls ++ call ∷ [] }))
 played-answer p call given r said at some =
-    let counts = failures-next p.calls p.records call r at in
-    let fails = ap one_failure some in
-    answered call given said (tape_told p) (tape_told (record p { calls = p.calls ++ call ∷ [] }))
-    (ap (λ n. min (n + p.late) (2 ^ 64 - 1)) (counts ∙ ap (λ x. failures p.calls p.records + x) fails ∙ omega arith))
+    let fails = fails-next p call given r (Some said) at some in
+    asked_one call given (Some said) (tape_told p) (tape_told (record p { calls = p.calls ++ call ∷ [] }))
+    (omega (arith, fails)) (omega (arith, fails))
     (ap (or_else p.last_late) (last-answered p.calls p.records call r said at some))
-    (ap Some (recited-next p.calls p.records call r at ∙ ap (λ x. recited p.calls p.records ++ exchange_of call x) some))
-    refl refl (simp length-append (omega arith)) refl refl
-
-none_honest : false ≡ true → ⊥
-none_honest e = cc
+    (ap Some (heard-next p call given r (Some said) at some))
+    (made-next p call given r (Some said) at some)
+    refl (ahead-next p.calls p.records call) (plays-next p call given r (Some said) at some) refl refl
 
 -- a record that refuses, where no call came after the end
 pub played-refusal : (p : Played) (call : Call) (given : List ℕ) (r : TapeItem) → p.last_late ≡ None → slice_get p.records (length p.calls) ≡ Some r → answer_of (kind_of call) r ≡ None
     → Refused call given (tape_told p) (tape_told (record p { calls = p.calls ++ call ∷ [] }))
 played-refusal p call given r early at none =
-    let counts = failures-next p.calls p.records call r at in
-    let fails = ap one_failure none in
-    refused call given (tape_told p) (tape_told (record p { calls = p.calls ++ call ∷ [] }))
-    (omega (arith, counts, fails))
-    (omega (arith, counts, fails))
+    let fails = fails-next p call given r None at none in
+    asked_one call given None (tape_told p) (tape_told (record p { calls = p.calls ++ call ∷ [] }))
+    (omega (arith, fails)) (omega (arith, fails))
     (ap (λ x. or_else x (last_failure (p.calls ++ call ∷ []) p.records)) early ∙ last-refused p.calls p.records call r at none)
-    (ap Some (recited-next p.calls p.records call r at ∙ ap (λ a. recited p.calls p.records ++ exchange_of call a) none ∙ append-nil (recited p.calls p.records)))
-    refl (inr (r, at, none)) (λ e. absurd (none_honest e))
-    refl (simp length-append (omega arith)) refl refl
+    (ap Some (heard-next p call given r None at none))
+    (made-next p call given r None at none)
+    refl (ahead-next p.calls p.records call) (plays-next p call given r None at none) refl refl
 
 -- a call after the end
 pub played-late : (p : Played) (call : Call) (given : List ℕ) → length p.records ≤ length p.calls
     → Refused call given (tape_told p) (tape_told (record p { late = min (p.late + 1) (2 ^ 64 - 1); last_late = Some call }))
 played-late p call given end =
-    refused call given (tape_told p) (tape_told (record p { late = min (p.late + 1) (2 ^ 64 - 1); last_late = Some call }))
-    (omega arith) (omega arith) refl refl refl (inl end) (λ e. absurd (none_honest e)) refl (omega arith) refl refl
+    let none : drop (length p.calls) p.records ≡ [] = drop_all (length p.calls) p.records end in
+    asked_one call given None (tape_told p) (tape_told (record p { late = min (p.late + 1) (2 ^ 64 - 1); last_late = Some call }))
+    (omega arith) (omega arith) refl (ap Some (sym (append-nil (recited p.calls p.records))))
+    (ap Some (sym (append-nil (came_of p.calls p.records)) ∙ ap (λ z. came_of p.calls p.records ++ taken_one (Some z) call None) (sym none)))
+    refl (ap Some (none ∙ ap (drop 1) (sym none))) (ap (λ z. next_answer z call) (sym none)) refl refl
 
 -- a refusal is by the next record, while there is one
 pub refusing : (p : Played) (call : Call) → length p.calls < length p.records → Refuses p.records (length p.calls) call

@@ -1,14 +1,13 @@
 -- What a tape has told: its records answer the calls one by one.
-use Rattle.std.specs.Prelude.{slice_get, false, ◌≡◌, ◌≤◌, ◌<◌, ◌+◌, ◌-◌, ◌^◌, min, ℕ, List, [], ◌∷◌, ◌++◌, length, Option, Some, None}
+use Rattle.std.specs.Prelude.{slice_get, false, ◌≡◌, ◌≤◌, ◌<◌, ◌+◌, ◌-◌, ◌^◌, ◌⊎◌, min, ℕ, List, [], ◌∷◌, ◌++◌, length, drop, Option, Some, None}
 use Rattle.host_traits.specs.declared.calls.Call.{Call}
 use Rattle.host_traits.specs.declared.calls.Said.{Said}
 use Rattle.host_traits.specs.declared.calls.TapeItem.{TapeItem}
-use Rattle.host_traits.specs.Told.{Told, Exchanges, answer_of, kind_of, heard_size, said_size}
+use Rattle.host_traits.specs.Told.{Told, Calls, Exchanges, answer_of, exchange_of, one_failure, kind_of, heard_size, said_size}
 
--- what a call and the answer of its record add to the exchanges
-abbrev pub exchange_of : Call → Option Said → Exchanges
-exchange_of call None = []
-exchange_of call (Some said) = (call, said) ∷ []
+-- the record at this place doesn't answer the call, or there is none
+abbrev pub Refuses : List TapeItem → ℕ → Call → Type 0
+Refuses records place call = (length records ≤ place) ⊎ ((r : TapeItem) × (slice_get records place ≡ Some r) × (answer_of (kind_of call) r ≡ None))
 
 -- the calls that the records answered, with their answers
 abbrev pub recited : List Call → List TapeItem → Exchanges
@@ -16,9 +15,11 @@ recited [] records = []
 recited (call ∷ calls) [] = []
 recited (call ∷ calls) (r ∷ records) = exchange_of call (answer_of (kind_of call) r) ++ recited calls records
 
-abbrev pub one_failure : Option Said → ℕ
-one_failure None = 1
-one_failure (Some said) = 0
+-- the calls that took a record, each with what that record answers
+abbrev pub came_of : List Call → List TapeItem → Calls
+came_of [] records = []
+came_of (call ∷ calls) [] = []
+came_of (call ∷ calls) (r ∷ records) = (call, answer_of (kind_of call) r) ∷ came_of calls records
 
 -- how many calls their records refused
 abbrev pub failures : List Call → List TapeItem → ℕ
@@ -52,16 +53,16 @@ pub record Played : Type 0 where
 abbrev pub unplayed : List TapeItem → Played
 unplayed records = record { records = records; calls = []; late = 0; last_late = None }
 
--- what a tape tells: the exchanges with the records that answered, and as faults the calls that their records
--- refused and those after the end
+-- what a tape tells: the calls that took a record with what it answers, the records that are left, and as faults the calls
+-- that their records refused and those after the end
 abbrev pub tape_told : Played → Told
 tape_told p = record {
   faults = min (failures p.calls p.records + p.late) (2 ^ 64 - 1);
   last_failed = or_else p.last_late (last_failure p.calls p.records);
   heard = Some (recited p.calls p.records);
+  made = Some (came_of p.calls p.records);
   held = None;
-  records = p.records;
-  place = length p.calls;
+  ahead = Some (drop (length p.calls) p.records);
   scarce = false;
   honest = false;
 }

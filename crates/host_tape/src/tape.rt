@@ -2,9 +2,9 @@
 ghost use Rattle.std.specs.Prelude.{◌≡◌, ◌<◌, ◌≤◌, ◌+◌, ◌-◌, ◌*◌, ◌^◌, min, List, ℕ, [], ◌∷◌, ◌++◌, All, length, map, slice_get, IfOk, IfErr, Some, None};
 ghost use Rattle.std.specs.Option.{option_map};
 ghost use Rattle.host_traits.specs.declared.calls.Said.TheVariants.{Number, Bytes, Done};
-ghost use Rattle.host_traits.specs.Told.{Told, Asked, Fills, Refuses, Refused, kind_of, kind_bytes, kind_number, kind_done};
+ghost use Rattle.host_traits.specs.Told.{Told, Asked, Fills, Refused, kind_of, kind_bytes, kind_number, kind_done};
 ghost use Rattle.host_tape.specs.declared.places.TapeFault.TheVariants.{Memory};
-ghost use Rattle.host_tape.specs.Played.{Played, AnswersBy, tape_told, unplayed};
+ghost use Rattle.host_tape.specs.Played.{Played, AnswersBy, Refuses, tape_told, unplayed};
 ghost use Rattle.host_tape.specs.Reading.{item_in, IsInside};
 ghost use Rattle.host_tape.specs.Next.{item_by};
 

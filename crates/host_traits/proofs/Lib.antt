@@ -1,3 +1,4 @@
 pub mod Talking
 pub mod Doing
+pub mod Exact
 pub mod Places

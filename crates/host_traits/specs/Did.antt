@@ -1,24 +1,23 @@
 -- Work that calls the host, and why it came to no end.
-use Rattle.std.specs.Prelude.{Bool, ◌≡◌, ℕ, ◌+◌, ◌<◌, ◌≤◌, List, [], ◌∷◌, ◌++◌, length, Option, Some, ◌⊎◌}
+use Rattle.std.specs.Prelude.{Bool, ◌≡◌, ℕ, ◌<◌, ◌≤◌, List, [], ◌∷◌, ◌++◌, length, Option, Some, ◌⊎◌}
 use Rattle.host_traits.specs.declared.calls.Call.{Call}
 use Rattle.host_traits.specs.declared.calls.Said.{Said}
-use Rattle.host_traits.specs.declared.calls.Said.TheVariants.{Number, Bytes, Done}
-use Rattle.host_traits.specs.Told.{Told, Talked, Exchanges, Rose, kind_of, kind_bytes}
+use Rattle.host_traits.specs.declared.calls.Said.TheVariants.{Bytes}
+use Rattle.host_traits.specs.Told.{Told, Made, Talked, Exchanges, Rose, heard_of, kind_of, kind_bytes}
 
 -- one of the exchanges
 abbrev pub IsIn : Call → Said → Exchanges → Type 0
 IsIn call said [] = ⊥
 IsIn call said (x ∷ heard) = ((call, said) ≡ x) ⊎ IsIn call said heard
 
-abbrev pub is_bytes : Said → ℕ
-is_bytes (Bytes bytes) = 1
-is_bytes (Number n) = 0
-is_bytes Done = 0
+-- each call that was made is such, with what it handed over
+abbrev pub Each : (Call → List ℕ → Type 0) → List Made → Type 0
+Each IsFor [] = Unit {0}
+Each IsFor (m ∷ own) = IsFor m.call m.given × Each IsFor own
 
--- how many of the answers are bytes
-abbrev pub byte_answers : Exchanges → ℕ
-byte_answers [] = 0
-byte_answers (x ∷ heard) = is_bytes x.1 + byte_answers heard
+-- a call that hands over nothing
+abbrev pub reads : (Call → Type 0) → Call → List ℕ → Type 0
+reads IsFor call given = IsFor call × (given ≡ [])
 
 -- what blame speaks of: all that was heard, the answers to the work's own calls, the host's counts before and after,
 -- its last failed call, and whether a call may end for want of memory
@@ -55,11 +54,15 @@ pub record IsFailed (IsFor : Call → Type 0) (t : Trace) (faults : ℕ) : Type 
   pub last : t.last_failed ≡ Some call
   pub for : IsFor call
 
--- Work that calls the host: its exchanges, each of a call that belongs to it, with at most so many answers of bytes,
--- and what came of them.
-pub record Did (IsFor : Call → Type 0) (most : ℕ) (old new : Told) (Outcome : Trace → Type 0) : Type 0 where
-  pub own : Exchanges
+-- Work that calls the host: the calls that it made, failed ones too, each of which belongs to it, by what it handed over too;
+-- at most so many; and what came of them.
+pub record DidBy (IsFor : Call → List ℕ → Type 0) (most : ℕ) (old new : Told) (Outcome : Trace → Type 0) : Type 0 where
+  pub own : List Made
   pub talked : Talked old new own
-  pub calls : (call : Call) (said : Said) → IsIn call said own → IsFor call
-  pub few : byte_answers own ≤ most
-  pub outcome : Outcome (trace_of own old new)
+  pub calls : Each IsFor own
+  pub few : length own ≤ most
+  pub outcome : Outcome (trace_of (heard_of own) old new)
+
+-- the same, where no call hands anything over
+abbrev pub Did : (Call → Type 0) → ℕ → Told → Told → (Trace → Type 0) → Type 0
+Did IsFor most old new Outcome = DidBy (reads IsFor) most old new Outcome

@@ -27,7 +27,7 @@ is_name a b = pointwise nat_eq a b
 
 -- the same files
 abbrev pub AreFiles : Option Files → Files → Type 0
-AreFiles None files = Unit {0}
+AreFiles None files = ⊥
 AreFiles (Some now) files = (name : List ℕ) → now name ≡ files name
 
 -- the files with one put or replaced

@@ -9,6 +9,7 @@ use Rattle.host_traits.specs.declared.calls.Said.{Said}
 use Rattle.host_traits.specs.declared.calls.Said.TheVariants.{Bytes}
 use Rattle.host_traits.specs.Told.{Told, Answered}
 use Rattle.host_traits.specs.Did.{Did, trace_of}
+use Rattle.host_traits.proofs.Doing.{did_answered}
 use Rattle.verity_descriptor.specs.declared.Descriptor.{Descriptor}
 use Rattle.verity_descriptor.specs.declared.DescriptorFault.{DescriptorFault}
 use Rattle.verity_descriptor.specs.Spelling.{decoded}
@@ -56,10 +57,5 @@ module _ (file : ℕ) (digest : Digest) (x y : Told) (raw : List ℕ) (few : len
 
   pub answered : (r : Result MeasuredFile RoFault) → Answered (DescriptorOf file) [] (Bytes raw) x y → r ≡ opened file digest raw → IfOk r (λ f. Describes file digest raw f)
       → Did (IsDescriptorCall file) 1 x y (OpenFileOutcome file digest r)
-  answered r a is describes = record {
-    own = (DescriptorOf file, Bytes raw) ∷ [];
-    talked = a.talked;
-    calls = λ call said i. ⊎_elim (λ e. ap (λ (z : Call × Said). z.0) e) (λ n. absurd n) i;
-    few = omega arith;
-    outcome = outcome r is (subst IsHeardOr (sym is) (heard file digest raw)) describes;
-  }
+  answered r a is describes =
+      did_answered (IsDescriptorCall file) (DescriptorOf file) (Bytes raw) x y (OpenFileOutcome file digest r) refl a (outcome r is (subst IsHeardOr (sym is) (heard file digest raw)) describes)

@@ -104,7 +104,7 @@ fn some_bytes(all: &[u8], at: u64, want: u64, raw: &mut Raw)
 }
 
 impl Host for TestHost {
-    ghost told = { λ h. record { faults = 0; last_failed = None; heard = None; held = None; records = []; place = 0; scarce = false; honest = false } };
+    ghost told = { λ h. record { faults = 0; last_failed = None; heard = None; held = None; made = None; ahead = None; scarce = false; honest = false } };
 
     fn block_size(&mut self, _disk: u32) -> Result<u64, HostError> {
         Ok(0)

@@ -4,8 +4,9 @@ use Rattle.std.specs.Prelude.{◌≢◌, slice_range}
 use Rattle.host_traits.specs.declared.calls.Call.{Call}
 use Rattle.host_traits.specs.declared.calls.Said.{Said}
 use Rattle.host_traits.specs.declared.calls.Said.TheVariants.{Bytes}
-use Rattle.host_traits.specs.Told.{Told, Answered, kind_bytes}
+use Rattle.host_traits.specs.Told.{Told, Answered, Refused, Unheard, kind_bytes}
 use Rattle.host_traits.specs.Did.{Trace, trace_of, Did}
+use Rattle.host_traits.proofs.Doing.{did_answered, did_refused, did_unheard, is_failed}
 use Rattle.sha_tree.specs.Tree.{padded, page_hash}
 use Rattle.sha_tree.proofs.Pages.{length-padded}
 use Rattle.verity_path.specs.States.{Place, Met, IsMet}
@@ -18,6 +19,18 @@ use Rattle.verity_path.specs.declared.walk.Layout.{Layout}
 use Rattle.verity_path.specs.declared.walk.WalkFault.TheVariants as fault
 use Rattle.verity_path.proofs.Asking.{kind_asked, piece_holds}
 
+-- the call failed, or there was no memory
+module _ (layout : Layout) (count level index : ℕ) (a : Place) (level_is : level ≡ a.level) (index_is : index ≡ a.index) (x y : Told) where
+  pub failed : (faults : ℕ) → Refused (call_for layout count level index) [] x y → faults ≡ y.faults → Did (IsCallFor layout count a.level a.index) 1 x y (FetchOutcome layout count a (Err (fault.Failed faults)))
+  failed faults refusal count_is =
+      let refused : Refused (call_for layout count a.level a.index) [] x y =
+      subst (λ (i : ℕ). Refused (call_for layout count a.level i) [] x y) index_is (subst (λ (l : ℕ). Refused (call_for layout count l index) [] x y) level_is refusal) in
+      did_refused (IsCallFor layout count a.level a.index) (call_for layout count a.level a.index) x y (FetchOutcome layout count a (Err (fault.Failed faults))) (record { call_is = refl }) refused
+      (is_failed (IsCallFor layout count a.level a.index) (call_for layout count a.level a.index) [] x y [] faults (record { call_is = refl }) refused count_is)
+
+  pub scarce : Unheard x y → Did (IsCallFor layout count a.level a.index) 1 x y (FetchOutcome layout count a (Err fault.Memory))
+  scarce unheard = did_unheard (IsCallFor layout count a.level a.index) 1 x y (FetchOutcome layout count a (Err fault.Memory)) unheard unheard.scarce
+
 module _ (layout : Layout) (count level index : ℕ) (a : Place) (level_is : level ≡ a.level) (index_is : index ≡ a.index) (x y : Told) (raw : List ℕ)
     (answer : Answered (call_for layout count level index) [] (Bytes raw) x y) (piece : Piece) (placed : IsPlaced layout count level index piece)
     (got : ℕ) (got_is : got ≡ length raw) where
@@ -29,13 +42,7 @@ module _ (layout : Layout) (count level index : ℕ) (a : Place) (level_is : lev
   stands = subst (λ (i : ℕ). IsPlaced layout count a.level i piece) index_is (subst (λ (l : ℕ). IsPlaced layout count l index piece) level_is placed)
 
   once : (R : Trace → Type 0) → R (trace_of ((call_for layout count a.level a.index, Bytes raw) ∷ []) x y) → Did (IsCallFor layout count a.level a.index) 1 x y R
-  once R r = record {
-    own = (call_for layout count a.level a.index, Bytes raw) ∷ [];
-    talked = answered.talked;
-    calls = λ call said i. ⊎_elim (λ e. record { call_is = ap (λ (z : Call × Said). z.0) e }) (λ n. absurd n) i;
-    few = omega arith;
-    outcome = r;
-  }
+  once R r = did_answered (IsCallFor layout count a.level a.index) (call_for layout count a.level a.index) (Bytes raw) x y R (record { call_is = refl }) answered r
 
   pub short : got < piece.asked → Did (IsCallFor layout count a.level a.index) 1 x y (FetchOutcome layout count a (Err (fault.Short piece.asked got)))
   short few = once (FetchOutcome layout count a (Err (fault.Short piece.asked got))) (record {

@@ -29,7 +29,7 @@ returns-then-write c = λ files dirs.
     let new = (c.get_mut.follows.lender c.write.new.self).entries in
     let puts : Puts disks new c.args.disk c.write.new.self = (w.3 here).0 in
     let may : all_writable (disk_of held).writable (512 * c.args.sector) (length c.args.bytes.now) ≡ true = sym c.write.ensures.judged ∙ c.if-write.true in
-    writes_disk disks new files dirs c.args.disk c.args.sector count c.args.bytes.now held c.write.new.self there (rw whole at inside) may c.if-write.ensures.wrote puts
+    writes_disk disks new files dirs c.args.disk c.args.sector count c.args.bytes.now held c.write.new.self whole there inside may c.if-write.ensures.wrote puts
 
 pub returns-else-write : goal.returns-else-write
 returns-else-write c = λ files dirs.
@@ -42,4 +42,4 @@ returns-else-write c = λ files dirs.
     let w = c.get_mut.follows.holds c.write.new.self in
     let shut : all_writable (disk_of held).writable (512 * c.args.sector) (length c.args.bytes.now) ≡ false = sym c.write.ensures.judged ∙ c.if-write.false in
     let same = w.0 ∙ set_value_same (is_at (nat_cmp c.args.disk)) disks c.write.new.self (rw c.if-write.ensures.wrote there) in
-    (shut_disk disks files dirs c.args.disk c.args.sector count c.args.bytes.now held there (rw whole at inside) shut, ap (λ (z : Entries DiskData). held_of z files dirs) same)
+    (shut_disk disks files dirs c.args.disk c.args.sector count c.args.bytes.now held whole there inside shut, ap (λ (z : Entries DiskData). held_of z files dirs) same)

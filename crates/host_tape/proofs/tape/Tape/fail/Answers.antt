@@ -2,9 +2,8 @@ use Rattle.std.proofs.Common.{◌≡◌, [], ◌∷◌, ◌++◌, List, length, 
 use Rattle.std.proofs.lemmas.Grind.{common_steps}
 use Rattle.std.proofs.lemmas.List.{length-map}
 use Rattle.host_traits.specs.declared.calls.TapeItem.{TapeItem}
-use Rattle.host_traits.specs.Told.{Refuses}
 use Rattle.host_tape.specs.Reading.{item_in}
-use Rattle.host_tape.specs.Played.{Played}
+use Rattle.host_tape.specs.Played.{Played, Refuses}
 use Rattle.host_tape.proofs.PlayedLemmas.{counted-refusal, refusing, played-refusal, played-late, failures-most}
 use Rattle.host_tape.proofs.tape.Tape.fail.Goals as goal
 
