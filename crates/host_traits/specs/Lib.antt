@@ -4,3 +4,4 @@ pub mod Did
 pub mod Streams
 pub mod Folders
 pub mod Mem
+pub mod Room

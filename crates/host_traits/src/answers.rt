@@ -1,5 +1,8 @@
 // The bytes of an answer: kept by a tape, and lent to the guest.
 ghost use Rattle.std.specs.Prelude.{◌≡◌, ◌≤◌, List, ℕ, [], length, IfSome, IfOk, IsSome, ◌↔◌};
+ghost use Rattle.std.specs.Borrow.{sem};
+ghost use Rattle.host_traits.specs.Held.{resized};
+ghost use Rattle.host_traits.specs.Room.{LendsRoom};
 
 use mg_base::Memory;
 use std::alloc::Global;
@@ -79,6 +82,18 @@ impl Raw {
     {
         self.bytes.clear();
         let _ = self.bytes.extend_from_slice(bytes);
+    }
+
+    /// Cuts it to so many bytes, or adds zeros, and lends them to be overwritten in place: it holds then what stands there when
+    /// the borrow ends. It takes no memory.
+    pub fn room(&mut self, len: usize) -> &mut [u8]
+        requires { len ≤ 69632 }
+        ensures* writes_back { sem 𝓛 (LendsRoom self.entry len result) }
+        ensures value { result.now ≡ resized self.old len }
+        ensures len { length result.now ≡ len }
+    {
+        let _ = self.bytes.resize(len, 0);
+        self.bytes.as_mut_slice()
     }
 
     /// Empties it.
