@@ -15,4 +15,4 @@ printf '\020\000\000\000\001\000\000\000\000\000\000\000\372\017\000\000\000\000
 guest serve plan store entropy tape <frames | od -An -v -tx1
 guest replay plan tape entropy <frames | od -An -v -tx1                     # again, from the recorded host
 printf 1 | dd of=app.apk bs=1 seek=4096 conv=notrunc 2>/dev/null            # the host changes one bit
-guest serve plan store entropy tape <frames 2>log | od -An -v -tx1; cat log
+guest serve plan store entropy tape2 <frames 2>log | od -An -v -tx1; cat log
