@@ -147,7 +147,8 @@ fn mixed(entries: u8x16, doubles: u8x16) -> u8x16
 
 #[inline(always)]
 fn round(y: u8x16, key: u8x16) -> u8x16
-    ensures { outer result ≡ xor_bytes (mix_columns (shift_rows (sub_bytes (outer y)))) (outer key) }
+    ensures { outer result
+        ≡ xor_bytes (mix_columns (shift_rows (sub_bytes (outer y)))) (outer key) }
 {
     let (entries, doubles) = substituted(y);
     mixed(entries, doubles) ^ key

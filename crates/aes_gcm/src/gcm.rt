@@ -153,11 +153,13 @@ pub fn open_in_place(
     requires text { length text.old ≤ 65536 }
     ensures opened { IsOk result ↔ Opens key.now nonce.now head.now (text.old ++ tag.now) text.new }
     ensures accepted { IsOk result ↔ (gcm_tag key.now nonce.now head.now text.old ≡ tag.now) }
-    ensures computed { IfErr result (λ e. e.computed ≡ gcm_tag key.now nonce.now head.now text.old) }
+    ensures computed { IfErr result
+        (λ e. e.computed ≡ gcm_tag key.now nonce.now head.now text.old) }
     ensures found { IfErr result (λ e. e.found ≡ tag.now) }
     ensures differ { IfErr result (λ e. e.computed ≢ e.found) }
     ensures unchanged { OnErr result (text.new ≡ text.old) }
-    ensures nothing { OnErr result ((t : List ℕ) → ¬ Opens key.now nonce.now head.now (text.old ++ tag.now) t) }
+    ensures nothing { OnErr result
+        ((t : List ℕ) → ¬ Opens key.now nonce.now head.now (text.old ++ tag.now) t) }
 {
     let aes = Aes256::new(key);
     let computed = tag_of(&aes, nonce, head, text);

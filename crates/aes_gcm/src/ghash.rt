@@ -38,7 +38,8 @@ fn product_of(n: u32, x: u128, h: u128) -> u128
 fn double(table: &mut [u128; 256], count: usize, product: u128)
     requires { count ≤ 128 }
     ensures below { (k : ℕ) → k < count → slice_index table.new k ≡ slice_index table.old k }
-    ensures above { (k : ℕ) → k < count → slice_index table.new (count + k) ≡ bit_xor product (slice_index table.old k) }
+    ensures above { (k : ℕ) → k < count → slice_index table.new (count + k)
+        ≡ bit_xor product (slice_index table.old k) }
 {
     for k in 0..count {
         table[count + k] = product ^ table[k];

@@ -16,8 +16,10 @@ pub use crate::gcm::{Tag, open_in_place, seal_in_place};
 pub fn one_text_each()
     ensures ciphertext { (k n c : List ℕ) → length k ≡ 32 → length n ≡ 12 → AreBytes k → AreBytes c
         → (t : List ℕ) × IsOnlyText k n c t }
-    ensures tag { (k n head c t : List ℕ) → ciphertext k n t ≡ c → seal k n head t ≡ c ++ tag k n head c }
-    ensures seal { (k n head b t u : List ℕ) → length k ≡ 32 → Opens k n head b t → Opens k n head b u → t ≡ u }
+    ensures tag { (k n head c t : List ℕ) → ciphertext k n t ≡ c → seal k n head t
+        ≡ c ++ tag k n head c }
+    ensures seal { (k n head b t u : List ℕ) → length k ≡ 32 → Opens k n head b t
+        → Opens k n head b u → t ≡ u }
 {}
 
 #[cfg(test)]

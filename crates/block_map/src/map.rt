@@ -91,10 +91,12 @@ impl Map {
     pub fn read(&self, files: &[Vec<u8>], at: u64, out: &mut [u8]) -> Result<(), MapFault>
         requires { length files.now ≡ length self.now.components }
         // The bytes are the disk's.
-        ensures read { OnOk result (out.new ≡ take (length out.old) (drop at (disk_bytes self.now (contents files.now)))) }
+        ensures read { OnOk result
+            (out.new ≡ take (length out.old) (drop at (disk_bytes self.now (contents files.now)))) }
         ensures range { OnOk result (at + length out.old ≤ self.now.length) }
         // It is refused exactly where the range passes the disk's length.
-        ensures beyond { IfErr result (λ e. (e ≡ OutOfDisk) × (self.now.length < at + length out.old)) }
+        ensures beyond { IfErr result
+            (λ e. (e ≡ OutOfDisk) × (self.now.length < at + length out.old)) }
         ensures kept { OnErr result (out.new ≡ out.old) }
     {
         let length = self.spec.length;
@@ -112,9 +114,13 @@ impl Map {
         // It is refused exactly for the first reason, by the range and then by the touched components in order.
         ensures judged { Judges self.now (contents files.old) at (at + length bytes.now) result }
         // Just the bytes of the range change in the files.
-        ensures wrote { OnOk result (AreWritten self.now at bytes.now (contents files.old) (contents files.new)) }
+        ensures wrote { OnOk result
+            (AreWritten self.now at bytes.now (contents files.old) (contents files.new)) }
         // The disk has the bytes from `at` on.
-        ensures disk { OnOk result (disk_bytes self.now (contents files.new) ≡ take at (disk_bytes self.now (contents files.old)) ++ bytes.now ++ drop (at + length bytes.now) (disk_bytes self.now (contents files.old))) }
+        ensures disk { OnOk result
+            (disk_bytes self.now (contents files.new)
+            ≡ take at (disk_bytes self.now (contents files.old)) ++ bytes.now ++ drop
+            (at + length bytes.now) (disk_bytes self.now (contents files.old))) }
         // After a refusal no file has changed.
         ensures kept { OnErr result (files.new ≡ files.old) }
     {

@@ -23,7 +23,8 @@ pub(crate) fn copy(spec: &Spec, files: &[Vec<u8>], at: u64, out: &mut [u8])
     requires is { IsComposite (composite spec.now) }
     requires files { length files.now ≡ length (composite spec.now).components }
     requires range { at + length out.old ≤ (composite spec.now).length }
-    ensures { (k : ℕ) → k < length out.old → slice_index out.new k ≡ byte_at (at + k) 0 (composite spec.now).components (contents files.now) }
+    ensures { (k : ℕ) → k < length out.old → slice_index out.new k
+        ≡ byte_at (at + k) 0 (composite spec.now).components (contents files.now) }
 {
     let mut index = holder(spec, at);
     let mut done = 0;
@@ -72,8 +73,10 @@ pub(crate) fn overwrite(spec: &Spec, files: &mut [Vec<u8>], at: u64, bytes: &[u8
     requires is { IsComposite (composite spec.now) }
     requires files { length files.old ≡ length (composite spec.now).components }
     requires range { at + length bytes.now ≤ (composite spec.now).length }
-    requires may { MayWriteBelow (composite spec.now) (contents files.old) at (at + length bytes.now) (length (composite spec.now).components) }
-    ensures { AreWritten (composite spec.now) at bytes.now (contents files.old) (contents files.new) }
+    requires may { MayWriteBelow (composite spec.now) (contents files.old) at
+        (at + length bytes.now) (length (composite spec.now).components) }
+    ensures { AreWritten (composite spec.now) at bytes.now (contents files.old)
+        (contents files.new) }
 {
     let mut index = holder(spec, at);
     let mut done = 0;

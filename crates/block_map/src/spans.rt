@@ -38,7 +38,8 @@ pub(crate) fn holder(spec: &Spec, at: u64) -> usize
     requires { IsComposite (composite spec.now) }
     ensures within { result < length (composite spec.now).components }
     ensures begins { begin_of (composite spec.now) result ≤ at }
-    ensures later { result + 1 < length (composite spec.now).components → at < begin_of (composite spec.now) (result + 1) }
+    ensures later { result + 1 < length (composite spec.now).components → at
+        < begin_of (composite spec.now) (result + 1) }
 {
     let mut low = 0;
     let mut high = spec.components.len();

@@ -22,7 +22,8 @@ fn follows(before: Option<u64>, offset: u64) -> bool
 /// The text of a path: 1 to 255 bytes of UTF-8.
 #[tactic(auto, unfolding(crate::specs::Reading::is_path))]
 fn path_text(path: &[u8]) -> Option<&str>
-    ensures { MatchOption result (is_path path.now ≡ false) (λ s. (s.now ≡ path.now) × (is_path path.now ≡ true)) }
+    ensures { MatchOption result (is_path path.now ≡ false)
+        (λ s. (s.now ≡ path.now) × (is_path path.now ≡ true)) }
 {
     if path.is_empty() {
         return None;

@@ -67,7 +67,8 @@ fn part_step<'a>(
     rest: &'a [u8],
 ) -> Result<(Stated<'a>, &'a [u8]), SpecFault>
     requires { length rest.now ≤ end }
-    ensures value { Tells (λ x. (part_by x.0, x.1.now)) result (part_step end (part_by part.entry) rest.now) }
+    ensures value { Tells (λ x. (part_by x.0, x.1.now)) result
+        (part_step end (part_by part.entry) rest.now) }
     ensures shorter { IfOk result (λ x. length x.1.now < length rest.now) }
 {
     let (number, value, after) = field(Message::Component, end, rest)?;
@@ -105,7 +106,10 @@ fn with_disk_field<'a>(
     value: Value<'a>,
 ) -> Result<(), SpecFault>
     requires { size_of (content value) ≤ end }
-    ensures { MatchResult result (λ _. with_disk_field end (disk_by disk.old) number (content value.entry) ≡ Ok (disk_by disk.new)) (λ f. Fails f (with_disk_field end (disk_by disk.old) number (content value.entry))) }
+    ensures { MatchResult result
+        (λ _. with_disk_field end (disk_by disk.old) number (content value.entry)
+        ≡ Ok (disk_by disk.new))
+        (λ f. Fails f (with_disk_field end (disk_by disk.old) number (content value.entry))) }
 {
     match value {
         Value::Number(n) => {
@@ -131,7 +135,9 @@ fn with_disk_field<'a>(
 #[tactic(auto, unfolding(crate::specs::Reading::disk_step))]
 fn disk_step<'a>(end: u64, disk: &mut StatedDisk<'a>, rest: &'a [u8]) -> Result<&'a [u8], SpecFault>
     requires { length rest.now ≤ end }
-    ensures value { MatchResult result (λ x. disk_step end (disk_by disk.old) rest.now ≡ Ok (disk_by disk.new, x.now)) (λ f. Fails f (disk_step end (disk_by disk.old) rest.now)) }
+    ensures value { MatchResult result
+        (λ x. disk_step end (disk_by disk.old) rest.now ≡ Ok (disk_by disk.new, x.now))
+        (λ f. Fails f (disk_step end (disk_by disk.old) rest.now)) }
     ensures shorter { IfOk result (λ x. length x.now < length rest.now) }
 {
     let (number, value, after) = field(Message::Disk, end, rest)?;

@@ -137,7 +137,8 @@ pub(crate) fn field(
     rest: &[u8],
 ) -> Result<(u64, Value<'_>, &[u8]), SpecFault>
     requires { length rest.now ≤ end }
-    ensures value { Tells (λ x. record { number = x.0; value = content x.1; rest = x.2.now }) result (field message end rest.now) }
+    ensures value { Tells (λ x. record { number = x.0; value = content x.1; rest = x.2.now }) result
+        (field message end rest.now) }
     ensures inside { IfOk result (λ x. size_of (content x.1) + length x.2.now < length rest.now) }
 {
     let at = place(end, rest);

@@ -89,7 +89,8 @@ fn put_number(number: u64, value: u64, out: &mut Vec<u8>) -> Result<(), AllocErr
 /// Adds the tag and the length of a field of `size` bytes.
 fn put_front(number: u64, size: u64, out: &mut Vec<u8>) -> Result<(), AllocError>
     requires { number < 16 }
-    ensures ok { OnOk result (out.new.items ≡ out.old.items ++ (varint_bytes (8 * number + 2) ++ varint_bytes size)) }
+    ensures ok { OnOk result
+        (out.new.items ≡ out.old.items ++ (varint_bytes (8 * number + 2) ++ varint_bytes size)) }
     ensures kept { take (length out.old.items) out.new.items ≡ out.old.items }
 {
     put_varint(8 * number + 2, out)?;
@@ -109,7 +110,11 @@ fn put_bytes(number: u64, bytes: &[u8], out: &mut Vec<u8>) -> Result<(), AllocEr
 
 /// Adds the two numbers of a component.
 fn put_numbers(component: &Component, out: &mut Vec<u8>) -> Result<(), AllocError>
-    ensures ok { OnOk result (out.new.items ≡ out.old.items ++ (number_field 2 (placed component.now).offset ++ number_field 3 (capability_of (placed component.now)))) }
+    ensures ok { OnOk result
+        (out.new.items
+        ≡ out.old.items
+        ++ (number_field 2 (placed component.now).offset ++ number_field 3
+        (capability_of (placed component.now)))) }
     ensures kept { take (length out.old.items) out.new.items ≡ out.old.items }
 {
     put_number(2, component.offset, out)?;
@@ -119,7 +124,8 @@ fn put_numbers(component: &Component, out: &mut Vec<u8>) -> Result<(), AllocErro
 /// Adds what a component says.
 #[tactic(auto, unfolding(crate::specs::Writing::component_bytes))]
 fn put_said(component: &Component, out: &mut Vec<u8>) -> Result<(), AllocError>
-    ensures ok { OnOk result (out.new.items ≡ out.old.items ++ component_bytes (placed component.now)) }
+    ensures ok { OnOk result
+        (out.new.items ≡ out.old.items ++ component_bytes (placed component.now)) }
     ensures kept { take (length out.old.items) out.new.items ≡ out.old.items }
 {
     put_bytes(1, component.path.as_bytes(), out)?;
@@ -130,7 +136,8 @@ fn put_said(component: &Component, out: &mut Vec<u8>) -> Result<(), AllocError>
 #[tactic(auto, unfolding(crate::specs::Writing::bytes_field))]
 fn put_component(component: &Component, out: &mut Vec<u8>) -> Result<(), AllocError>
     requires { length (string_bytes component.now.path) < 256 }
-    ensures ok { OnOk result (out.new.items ≡ out.old.items ++ bytes_field 2 (component_bytes (placed component.now))) }
+    ensures ok { OnOk result
+        (out.new.items ≡ out.old.items ++ bytes_field 2 (component_bytes (placed component.now))) }
     ensures kept { take (length out.old.items) out.new.items ≡ out.old.items }
 {
     put_front(2, component_size(component), out)?;
@@ -140,7 +147,8 @@ fn put_component(component: &Component, out: &mut Vec<u8>) -> Result<(), AllocEr
 /// Adds the components, one after another.
 fn put_components(components: &[Component], out: &mut Vec<u8>) -> Result<(), AllocError>
     requires { AllByRecursion (λ (c : Placed). IsPath c.path) (map placed components.now) }
-    ensures ok { OnOk result (out.new.items ≡ out.old.items ++ components_bytes (map placed components.now)) }
+    ensures ok { OnOk result
+        (out.new.items ≡ out.old.items ++ components_bytes (map placed components.now)) }
     ensures kept { take (length out.old.items) out.new.items ≡ out.old.items }
 {
     for component in components {
@@ -152,7 +160,12 @@ fn put_components(components: &[Component], out: &mut Vec<u8>) -> Result<(), All
 /// Adds the disk's fields.
 fn put_disk(spec: &Spec, out: &mut Vec<u8>) -> Result<(), AllocError>
     requires { IsComposite (composite spec.now) }
-    ensures ok { OnOk result (out.new.items ≡ out.old.items ++ (number_field 1 2 ++ (components_bytes (composite spec.now).components ++ number_field 3 (composite spec.now).length))) }
+    ensures ok { OnOk result
+        (out.new.items
+        ≡ out.old.items
+        ++ (number_field 1 2
+        ++ (components_bytes (composite spec.now).components ++ number_field 3
+        (composite spec.now).length))) }
     ensures kept { take (length out.old.items) out.new.items ≡ out.old.items }
 {
     put_number(1, 2, out)?;

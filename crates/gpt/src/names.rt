@@ -10,7 +10,8 @@ use mg_base::Span;
 
 /// What is left of a name's field behind this unit, where it begins with it.
 fn after_unit(field: &[u8], unit: u16) -> Option<&[u8]>
-    ensures { MatchOption result (after_unit unit field.now ≡ None) (λ rest. after_unit unit field.now ≡ Some rest.now) }
+    ensures { MatchOption result (after_unit unit field.now ≡ None)
+        (λ rest. after_unit unit field.now ≡ Some rest.now) }
 {
     match field {
         [low, high, rest @ ..] => {
@@ -27,7 +28,8 @@ fn after_unit(field: &[u8], unit: u16) -> Option<&[u8]>
 /// What is left of a name's field behind these units.
 #[tactic(auto, unfolding(crate::specs::Names::after_units))]
 fn after_units<'a>(field: &'a [u8], units: &[u16]) -> Option<&'a [u8]>
-    ensures { MatchOption result (after_units units.now field.now ≡ None) (λ rest. after_units units.now field.now ≡ Some rest.now) }
+    ensures { MatchOption result (after_units units.now field.now ≡ None)
+        (λ rest. after_units units.now field.now ≡ Some rest.now) }
 {
     let mut rest = field;
     for unit in units {
@@ -41,7 +43,8 @@ fn after_units<'a>(field: &'a [u8], units: &[u16]) -> Option<&'a [u8]>
 
 /// What is left of a name's field behind this character.
 fn after_char(field: &[u8], c: char) -> Option<&[u8]>
-    ensures { MatchOption result (after_units (encode_utf16 c) field.now ≡ None) (λ rest. after_units (encode_utf16 c) field.now ≡ Some rest.now) }
+    ensures { MatchOption result (after_units (encode_utf16 c) field.now ≡ None)
+        (λ rest. after_units (encode_utf16 c) field.now ≡ Some rest.now) }
 {
     let mut buffer = [0; 2];
     let units: &[u16] = c.encode_utf16(&mut buffer);

@@ -126,7 +126,9 @@ fn read_copies(
     requires tail { length tail.now ≡ 20480 }
     requires least { 80 ≤ sectors }
     requires most { sectors ≤ 1099511627776 }
-    ensures { IfOk result (λ r. r ≡ first_good (copy_of (primary sectors) head.now) (copy_of (alternate sectors) tail.now)) }
+    ensures { IfOk result
+        (λ r. r ≡ first_good (copy_of (primary sectors) head.now)
+        (copy_of (alternate sectors) tail.now)) }
 {
     match read_copy(alloc, head, &primary(sectors))? {
         Ok(table) => Ok(Ok(table)),
@@ -149,7 +151,8 @@ pub fn read_gpt(alloc: Global, head: &[u8], tail: &[u8], sectors: u64) -> Result
     // Its used entries have sectors, as finding one by its name needs.
     ensures bounded { IfOk result (λ t. All UsedIsBounded t.entries) }
     // What is in the grammar is read, unless memory runs out.
-    ensures only { (t : Table) → IsGpt head.now tail.now sectors t → (result ≡ Ok t) ⊎ (result ≡ Err faults.Memory) }
+    ensures only { (t : Table) → IsGpt head.now tail.now sectors t → (result ≡ Ok t)
+        ⊎ (result ≡ Err faults.Memory) }
     // The answer is that of the rules in their order, unless memory runs out.
     ensures exact { (result ≡ gpt_of head.now tail.now sectors) ⊎ (result ≡ Err faults.Memory) }
 {

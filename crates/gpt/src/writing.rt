@@ -206,12 +206,17 @@ pub fn write_gpt(alloc: Global, disk: Guid, parts: &[Part]) -> Result<GptImage, 
     ensures tail { IfOk result (λ i. i.tail.items ≡ tail_bytes disk parts.now) }
     ensures sectors { IfOk result (λ i. i.sectors ≡ total parts.now) }
     // Both copies are in the grammar, and the disk is read as the table that was to be written.
-    ensures primary { IfOk result (λ i. IsCopy (primary i.sectors) i.head.items (written disk parts.now)) }
-    ensures alternate { IfOk result (λ i. IsCopy (alternate i.sectors) i.tail.items (written disk parts.now)) }
-    ensures read { IfOk result (λ i. IsGpt i.head.items i.tail.items i.sectors (written disk parts.now)) }
+    ensures primary { IfOk result
+        (λ i. IsCopy (primary i.sectors) i.head.items (written disk parts.now)) }
+    ensures alternate { IfOk result
+        (λ i. IsCopy (alternate i.sectors) i.tail.items (written disk parts.now)) }
+    ensures read { IfOk result
+        (λ i. IsGpt i.head.items i.tail.items i.sectors (written disk parts.now)) }
     // More than 128 parts are refused, and nothing else, unless memory runs out.
-    ensures too_many { (result ≡ Err (faults.TooMany (length parts.now))) ↔ (128 < length parts.now) }
-    ensures refused { IfErr result (λ e. (e ≡ faults.TooMany (length parts.now)) ⊎ (e ≡ faults.Memory)) }
+    ensures too_many { (result ≡ Err (faults.TooMany (length parts.now)))
+        ↔ (128 < length parts.now) }
+    ensures refused { IfErr result
+        (λ e. (e ≡ faults.TooMany (length parts.now)) ⊎ (e ≡ faults.Memory)) }
 {
     if parts.len() > 128 {
         return Err(WriteGptFault::TooMany {

@@ -18,9 +18,13 @@ pub fn store_file<F: Folder>(
     name: &str,
     bytes: &[u8],
 ) -> Result<(), Refusal>
-    ensures ok { OnOk result (IsStored (F.files folder.old) (F.files folder.new) (name.now, bytes.now)) }
-    ensures err { IfErr result (λ refusal. MayBeStored (F.files folder.old) (F.files folder.new) (name.now, bytes.now) × Names name.now refusal) }
-    ensures cause { FailsAt store_of (F.faults folder.old) (F.faults folder.new) (F.last_failed folder.new) result }
+    ensures ok { OnOk result
+        (IsStored (F.files folder.old) (F.files folder.new) (name.now, bytes.now)) }
+    ensures err { IfErr result
+        (λ refusal. MayBeStored (F.files folder.old) (F.files folder.new) (name.now, bytes.now)
+        × Names name.now refusal) }
+    ensures cause { FailsAt store_of (F.faults folder.old) (F.faults folder.new)
+        (F.last_failed folder.new) result }
 {
     match folder.store(alloc, name, bytes) {
         Ok(()) => Ok(()),
@@ -36,9 +40,14 @@ fn store_kept<F: Folder>(
     name: &str,
     bytes: Option<Vec<u8>>,
 ) -> Result<(), Refusal>
-    ensures ok { OnOk result (AreStored (F.files folder.old) (kept_as name.now (λ v. v.items) bytes) (F.files folder.new)) }
-    ensures err { IfErr result (StoringStops (F.files folder.old) (kept_as name.now (λ v. v.items) bytes) (F.files folder.new)) }
-    ensures cause { FailsAt store_of (F.faults folder.old) (F.faults folder.new) (F.last_failed folder.new) result }
+    ensures ok { OnOk result
+        (AreStored (F.files folder.old) (kept_as name.now (λ v. v.items) bytes)
+        (F.files folder.new)) }
+    ensures err { IfErr result
+        (StoringStops (F.files folder.old) (kept_as name.now (λ v. v.items) bytes)
+        (F.files folder.new)) }
+    ensures cause { FailsAt store_of (F.faults folder.old) (F.faults folder.new)
+        (F.last_failed folder.new) result }
 {
     match bytes {
         Some(bytes) => store_file(alloc, folder, name, &bytes),
@@ -53,9 +62,14 @@ fn keep_line<F: Folder>(
     host: &MemHost,
     line: &StoreLine,
 ) -> Result<(), Refusal>
-    ensures ok { OnOk result (AreStored (F.files folder.old) (kept_by (mem_held host.now) line.now) (F.files folder.new)) }
-    ensures err { IfErr result (StoringStops (F.files folder.old) (kept_by (mem_held host.now) line.now) (F.files folder.new)) }
-    ensures cause { FailsAt store_of (F.faults folder.old) (F.faults folder.new) (F.last_failed folder.new) result }
+    ensures ok { OnOk result
+        (AreStored (F.files folder.old) (kept_by (mem_held host.now) line.now)
+        (F.files folder.new)) }
+    ensures err { IfErr result
+        (StoringStops (F.files folder.old) (kept_by (mem_held host.now) line.now)
+        (F.files folder.new)) }
+    ensures cause { FailsAt store_of (F.faults folder.old) (F.faults folder.new)
+        (F.last_failed folder.new) result }
 {
     match line {
         StoreLine::KeepDisk { n, file } => match host.disk_bytes(*n) {
@@ -78,9 +92,14 @@ pub fn keep<F: Folder>(
     host: &MemHost,
     lines: &[StoreLine],
 ) -> Result<(), Refusal>
-    ensures ok { OnOk result (AreStored (F.files folder.old) (kept_of (mem_held host.now) lines.now) (F.files folder.new)) }
-    ensures err { IfErr result (StoringStops (F.files folder.old) (kept_of (mem_held host.now) lines.now) (F.files folder.new)) }
-    ensures cause { FailsAt store_of (F.faults folder.old) (F.faults folder.new) (F.last_failed folder.new) result }
+    ensures ok { OnOk result
+        (AreStored (F.files folder.old) (kept_of (mem_held host.now) lines.now)
+        (F.files folder.new)) }
+    ensures err { IfErr result
+        (StoringStops (F.files folder.old) (kept_of (mem_held host.now) lines.now)
+        (F.files folder.new)) }
+    ensures cause { FailsAt store_of (F.faults folder.old) (F.faults folder.new)
+        (F.last_failed folder.new) result }
 {
     let mut index = 0;
     while index < lines.len() {

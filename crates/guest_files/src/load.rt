@@ -45,9 +45,11 @@ pub fn load_file<F: Folder>(
 ) -> Result<Vec<u8>, Refusal>
     requires { loaded.old ≤ 2 ^ 31 }
     ensures files { F.files folder.new ≡ F.files folder.old }
-    ensures ok { IfOk result (λ v. IsLoaded (F.files folder.old) name.now loaded.old loaded.new v.items) }
+    ensures ok { IfOk result
+        (λ v. IsLoaded (F.files folder.old) name.now loaded.old loaded.new v.items) }
     ensures err { IfErr result (LoadFails (F.files folder.old) name.now loaded.old) }
-    ensures cause { FailsAt load_of (F.faults folder.old) (F.faults folder.new) (F.last_failed folder.new) result }
+    ensures cause { FailsAt load_of (F.faults folder.old) (F.faults folder.new)
+        (F.last_failed folder.new) result }
 {
     let bytes = match folder.load(alloc, name, FILE_LIMIT) {
         Ok(bytes) => bytes,

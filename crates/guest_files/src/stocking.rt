@@ -58,10 +58,13 @@ fn load_paths<F: Folder>(
 ) -> Result<Vec<Vec<u8>>, Refusal>
     requires { loaded.old ≤ 2 ^ 31 }
     ensures files { F.files folder.new ≡ F.files folder.old }
-    ensures ok { IfOk result (λ v. AreLoaded (F.files folder.old) (paths_of map.now) loaded.old loaded.new (contents v.items)) }
+    ensures ok { IfOk result
+        (λ v. AreLoaded (F.files folder.old) (paths_of map.now) loaded.old loaded.new
+        (contents v.items)) }
     ensures limit { OnOk result (loaded.new ≤ 2 ^ 31) }
     ensures err { IfErr result (PathsFail (F.files folder.old) (paths_of map.now) loaded.old) }
-    ensures cause { FailsAt load_of (F.faults folder.old) (F.faults folder.new) (F.last_failed folder.new) result }
+    ensures cause { FailsAt load_of (F.faults folder.old) (F.faults folder.new)
+        (F.last_failed folder.new) result }
 {
     let mut files = Vec::new(alloc);
     let components = &map.spec().components;
@@ -92,11 +95,15 @@ fn add_composite<F: Folder>(
     requires number { (mem_held host.old).disk n ≡ None }
     requires limit { loaded.old ≤ 2 ^ 31 }
     ensures files { F.files folder.new ≡ F.files folder.old }
-    ensures ok { OnOk result (AddsComposite (F.files folder.old) n file.now (record { held = mem_held host.old; loaded = loaded.old }) (record { held = mem_held host.new; loaded = loaded.new })) }
+    ensures ok { OnOk result
+        (AddsComposite (F.files folder.old) n file.now
+        (record { held = mem_held host.old; loaded = loaded.old })
+        (record { held = mem_held host.new; loaded = loaded.new })) }
     ensures limit { OnOk result (loaded.new ≤ 2 ^ 31) }
     ensures count { host.new.count ≡ host.old.count }
     ensures err { IfErr result (CompositeStops (F.files folder.old) file.now loaded.old line) }
-    ensures cause { FailsAt load_of (F.faults folder.old) (F.faults folder.new) (F.last_failed folder.new) result }
+    ensures cause { FailsAt load_of (F.faults folder.old) (F.faults folder.new)
+        (F.last_failed folder.new) result }
 {
     let text = match load_file(alloc, folder, file, loaded) {
         Ok(text) => text,
@@ -129,11 +136,15 @@ fn add_disk<F: Folder>(
     requires number { (mem_held host.old).disk n ≡ None }
     requires limit { loaded.old ≤ 2 ^ 31 }
     ensures files { F.files folder.new ≡ F.files folder.old }
-    ensures ok { OnOk result (AddsDisk (F.files folder.old) n file.now (record { held = mem_held host.old; loaded = loaded.old }) (record { held = mem_held host.new; loaded = loaded.new })) }
+    ensures ok { OnOk result
+        (AddsDisk (F.files folder.old) n file.now
+        (record { held = mem_held host.old; loaded = loaded.old })
+        (record { held = mem_held host.new; loaded = loaded.new })) }
     ensures limit { OnOk result (loaded.new ≤ 2 ^ 31) }
     ensures count { host.new.count ≡ host.old.count }
     ensures err { IfErr result (DiskStops (F.files folder.old) file.now loaded.old line) }
-    ensures cause { FailsAt load_of (F.faults folder.old) (F.faults folder.new) (F.last_failed folder.new) result }
+    ensures cause { FailsAt load_of (F.faults folder.old) (F.faults folder.new)
+        (F.last_failed folder.new) result }
 {
     let bytes = match load_file(alloc, folder, file, loaded) {
         Ok(bytes) => bytes,
@@ -165,11 +176,15 @@ fn add_verity<F: Folder>(
     requires dir { (mem_held host.old).dir n ≡ None }
     requires limit { loaded.old ≤ 2 ^ 31 }
     ensures files { F.files folder.new ≡ F.files folder.old }
-    ensures ok { OnOk result (AddsVerity (F.files folder.old) n file.now salt (record { held = mem_held host.old; loaded = loaded.old }) (record { held = mem_held host.new; loaded = loaded.new })) }
+    ensures ok { OnOk result
+        (AddsVerity (F.files folder.old) n file.now salt
+        (record { held = mem_held host.old; loaded = loaded.old })
+        (record { held = mem_held host.new; loaded = loaded.new })) }
     ensures limit { OnOk result (loaded.new ≤ 2 ^ 31) }
     ensures count { host.new.count ≡ host.old.count }
     ensures err { IfErr result (LoadFails (F.files folder.old) file.now loaded.old) }
-    ensures cause { FailsAt load_of (F.faults folder.old) (F.faults folder.new) (F.last_failed folder.new) result }
+    ensures cause { FailsAt load_of (F.faults folder.old) (F.faults folder.new)
+        (F.last_failed folder.new) result }
 {
     let bytes = match load_file(alloc, folder, file, loaded) {
         Ok(bytes) => bytes,
@@ -193,11 +208,15 @@ fn add_line<F: Folder>(
     requires number { IsFree line.now (mem_held host.old) }
     requires limit { loaded.old ≤ 2 ^ 31 }
     ensures files { F.files folder.new ≡ F.files folder.old }
-    ensures ok { OnOk result (Adds (F.files folder.old) line.now (record { held = mem_held host.old; loaded = loaded.old }) (record { held = mem_held host.new; loaded = loaded.new })) }
+    ensures ok { OnOk result
+        (Adds (F.files folder.old) line.now
+        (record { held = mem_held host.old; loaded = loaded.old })
+        (record { held = mem_held host.new; loaded = loaded.new })) }
     ensures limit { OnOk result (loaded.new ≤ 2 ^ 31) }
     ensures count { host.new.count ≡ host.old.count }
     ensures err { IfErr result (LineStops (F.files folder.old) line.now loaded.old number) }
-    ensures cause { FailsAt load_of (F.faults folder.old) (F.faults folder.new) (F.last_failed folder.new) result }
+    ensures cause { FailsAt load_of (F.faults folder.old) (F.faults folder.new)
+        (F.last_failed folder.new) result }
 {
     match line {
         StoreLine::Disk { n, file } => add_disk(
@@ -243,11 +262,14 @@ pub fn stock<F: Folder>(
     requires list { (text : List ℕ) × IsStore text lines.now }
     requires limit { loaded.old ≤ 2 ^ 31 }
     ensures files { F.files folder.new ≡ F.files folder.old }
-    ensures ok { IfOk result (λ h. Stocked (F.files folder.old) lines.now (unstocked loaded.old) (record { held = mem_held h; loaded = loaded.new })) }
+    ensures ok { IfOk result
+        (λ h. Stocked (F.files folder.old) lines.now (unstocked loaded.old)
+        (record { held = mem_held h; loaded = loaded.new })) }
     ensures limit { OnOk result (loaded.new ≤ 2 ^ 31) }
     ensures count { IfOk result (λ h. h.count ≡ unused) }
     ensures err { IfErr result (StockFails (F.files folder.old) lines.now (unstocked loaded.old)) }
-    ensures cause { FailsAt load_of (F.faults folder.old) (F.faults folder.new) (F.last_failed folder.new) result }
+    ensures cause { FailsAt load_of (F.faults folder.old) (F.faults folder.new)
+        (F.last_failed folder.new) result }
 {
     let mut host = MemHost::new(alloc);
     let mut index = 0;

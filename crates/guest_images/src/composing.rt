@@ -98,8 +98,10 @@ fn parts_of(alloc: Global, disk: &Guid, pieces: &[Piece]) -> Result<Vec<Part>, M
 fn table_of(alloc: Global, out: &str, pieces: &[Piece]) -> Result<GptImage, Memory>
     requires each { AllByRecursion IsPiece pieces.now }
     requires fit { unfit_kind pieces.now ≡ None }
-    ensures head { IfOk result (λ i. i.head.items ≡ head_bytes (disk_of out.now) (parts_of out.now pieces.now)) }
-    ensures tail { IfOk result (λ i. i.tail.items ≡ tail_bytes (disk_of out.now) (parts_of out.now pieces.now)) }
+    ensures head { IfOk result
+        (λ i. i.head.items ≡ head_bytes (disk_of out.now) (parts_of out.now pieces.now)) }
+    ensures tail { IfOk result
+        (λ i. i.tail.items ≡ tail_bytes (disk_of out.now) (parts_of out.now pieces.now)) }
     ensures sectors { IfOk result (λ i. i.sectors ≡ total (parts_of out.now pieces.now)) }
     ensures table { OnOk result (HasTable out.now pieces.now) }
     ensures low { IfOk result (λ i. 80 ≤ i.sectors) }
@@ -127,7 +129,9 @@ fn end_component(alloc: Global, path: &str, offset: u64) -> Result<Component, Me
 // A piece's component.
 fn component_of(alloc: Global, first: u64, piece: &Piece) -> Result<Component, Memory>
     requires { first ≤ 2 ^ 30 }
-    ensures { IfOk result (λ c. placed c ≡ record { path = piece.now.file; offset = 512 * first; write = piece.now.write }) }
+    ensures { IfOk result
+        (λ c. placed c
+        ≡ record { path = piece.now.file; offset = 512 * first; write = piece.now.write }) }
 {
     Ok(Component {
         path: copied(alloc, &piece.file)?.into_string(),
@@ -144,7 +148,9 @@ fn put_components(
 ) -> Result<(), Memory>
     requires each { AllByRecursion IsPiece pieces.now }
     requires few { length pieces.now ≤ 128 }
-    ensures { OnOk result (map placed components.new.items ≡ map placed components.old.items ++ placed_from 40 pieces.now) }
+    ensures { OnOk result
+        (map placed components.new.items
+        ≡ map placed components.old.items ++ placed_from 40 pieces.now) }
 {
     let mut first = 40;
     for piece in pieces {
@@ -196,9 +202,11 @@ pub(crate) fn compose(alloc: Global, out: &str, pieces: &[Piece]) -> Result<Disk
     requires each { AllByRecursion IsPiece pieces.now }
     requires fit { unfit_kind pieces.now ≡ None }
     ensures text { IfOk result (λ d. d.text.items ≡ file_bytes (composite_of out.now pieces.now)) }
-    ensures head { IfOk result (λ d. d.head.items ≡ head_bytes (disk_of out.now) (parts_of out.now pieces.now)) }
+    ensures head { IfOk result
+        (λ d. d.head.items ≡ head_bytes (disk_of out.now) (parts_of out.now pieces.now)) }
     ensures head_name { IfOk result (λ d. string_bytes d.head_name ≡ head_name out.now) }
-    ensures tail { IfOk result (λ d. d.tail.items ≡ tail_bytes (disk_of out.now) (parts_of out.now pieces.now)) }
+    ensures tail { IfOk result
+        (λ d. d.tail.items ≡ tail_bytes (disk_of out.now) (parts_of out.now pieces.now)) }
     ensures tail_name { IfOk result (λ d. string_bytes d.tail_name ≡ tail_name out.now) }
     ensures described { OnOk result (IsDescribed out.now pieces.now) }
     ensures table { OnOk result (HasTable out.now pieces.now) }

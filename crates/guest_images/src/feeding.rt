@@ -25,7 +25,8 @@ fn load_part<F: Folder>(
     ensures files { F.files folder.new ≡ F.files folder.old }
     ensures ok { IfOk result (λ v. IsPart (F.files folder.old) name.now at v.items) }
     ensures err { IfErr result (LoadFault (F.files folder.old) name.now 0) }
-    ensures cause { LoadsCause (F.faults folder.old) (F.faults folder.new) (F.last_failed folder.new) result }
+    ensures cause { LoadsCause (F.faults folder.old) (F.faults folder.new)
+        (F.last_failed folder.new) result }
 {
     match folder.load_part(alloc, name, at, PART) {
         Ok(part) => Ok(part),
@@ -49,7 +50,8 @@ fn feed_file<F: Folder>(
     ensures salt { builder.new.salt ≡ builder.old.salt }
     ensures ok { OnOk result (IsFedFile (F.files folder.old) name.now builder.new) }
     ensures err { IfErr result (LoadFault (F.files folder.old) name.now 0) }
-    ensures cause { LoadsCause (F.faults folder.old) (F.faults folder.new) (F.last_failed folder.new) result }
+    ensures cause { LoadsCause (F.faults folder.old) (F.faults folder.new)
+        (F.last_failed folder.new) result }
 {
     let mut at = 0;
     'parts: while at <= FILE_LIMIT {
@@ -80,7 +82,8 @@ pub(crate) fn tree_of<F: Folder>(
     ensures files { F.files folder.new ≡ F.files folder.old }
     ensures ok { IfOk result (IsTreeOf (F.files folder.old) name.now salt) }
     ensures err { IfErr result (LoadFault (F.files folder.old) name.now 0) }
-    ensures cause { LoadsCause (F.faults folder.old) (F.faults folder.new) (F.last_failed folder.new) result }
+    ensures cause { LoadsCause (F.faults folder.old) (F.faults folder.new)
+        (F.last_failed folder.new) result }
 {
     let mut builder = match Builder::new(alloc, salt) {
         Ok(builder) => builder,

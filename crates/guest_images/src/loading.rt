@@ -29,9 +29,11 @@ pub(crate) fn load<F: Folder>(
 ) -> Result<Vec<u8>, Status>
     requires { loaded.old ≤ 2 ^ 31 }
     ensures files { F.files folder.new ≡ F.files folder.old }
-    ensures ok { IfOk result (λ v. IsLoaded (F.files folder.old) name.now loaded.old loaded.new v.items) }
+    ensures ok { IfOk result
+        (λ v. IsLoaded (F.files folder.old) name.now loaded.old loaded.new v.items) }
     ensures err { IfErr result (LoadFault (F.files folder.old) name.now loaded.old) }
-    ensures cause { LoadsCause (F.faults folder.old) (F.faults folder.new) (F.last_failed folder.new) result }
+    ensures cause { LoadsCause (F.faults folder.old) (F.faults folder.new)
+        (F.last_failed folder.new) result }
 {
     match load_file(alloc, folder, name, loaded) {
         Ok(bytes) => Ok(bytes),
@@ -41,8 +43,10 @@ pub(crate) fn load<F: Folder>(
 
 // Stores a file.
 pub(crate) fn store<F: Folder>(alloc: Global, folder: &mut F, name: &str, bytes: &[u8]) -> Status
-    ensures stored { StoreOutcome (F.files folder.old) (name.now, bytes.now) (F.files folder.new) result }
-    ensures cause { StoresCause (F.faults folder.old) (F.faults folder.new) (F.last_failed folder.new) result }
+    ensures stored { StoreOutcome (F.files folder.old) (name.now, bytes.now)
+        (F.files folder.new) result }
+    ensures cause { StoresCause (F.faults folder.old) (F.faults folder.new)
+        (F.last_failed folder.new) result }
 {
     match store_file(alloc, folder, name, bytes) {
         Ok(()) => Status::Done,

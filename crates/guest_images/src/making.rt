@@ -14,8 +14,12 @@ use std::alloc::Global;
 
 // Stores the files of a disk: the composite file first, then the head and the tail of the table.
 fn store_disk<F: Folder>(alloc: Global, out: &str, disk: &Disk, folder: &mut F) -> Status
-    ensures stored { StoringOutcome (F.files folder.old) ((out.now, disk.now.text.items) ∷ (string_bytes disk.now.head_name, disk.now.head.items) ∷ (string_bytes disk.now.tail_name, disk.now.tail.items) ∷ []) (F.files folder.new) result }
-    ensures cause { StoresCause (F.faults folder.old) (F.faults folder.new) (F.last_failed folder.new) result }
+    ensures stored { StoringOutcome (F.files folder.old)
+        ((out.now, disk.now.text.items) ∷ (string_bytes disk.now.head_name, disk.now.head.items) ∷
+        (string_bytes disk.now.tail_name, disk.now.tail.items) ∷ [])
+        (F.files folder.new) result }
+    ensures cause { StoresCause (F.faults folder.old) (F.faults folder.new)
+        (F.last_failed folder.new) result }
 {
     match store_file(alloc, folder, out, &disk.text) {
         Ok(()) => {}
@@ -34,8 +38,16 @@ fn store_disk<F: Folder>(alloc: Global, out: &str, disk: &Disk, folder: &mut F) 
 /// Stores the composite disk of a list's parts: the composite file, and the two ends of its partition table.
 pub(crate) fn make_disk<F: Folder>(alloc: Global, list: &str, out: &str, folder: &mut F) -> Status
     requires { length out.now ≤ 250 }
-    ensures composes { (log : Option (List ℕ)) → Composes (record { old = F.files folder.old; new = F.files folder.new; last = F.last_failed folder.new }) (record { old = log; new = log }) list.now out.now result }
-    ensures file { FileCause (F.faults folder.old) (F.faults folder.new) (F.last_failed folder.new) result }
+    ensures composes { (log : Option (List ℕ))
+        → Composes
+        (record {
+          old = F.files folder.old;
+          new = F.files folder.new;
+          last = F.last_failed folder.new;
+        })
+        (record { old = log; new = log }) list.now out.now result }
+    ensures file { FileCause (F.faults folder.old) (F.faults folder.new)
+        (F.last_failed folder.new) result }
     ensures never { result ≡ Status.WriteFault → ⊥ }
 {
     let pieces = match load_parts(alloc, folder, list) {

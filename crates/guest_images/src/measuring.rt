@@ -47,7 +47,8 @@ fn lines_of(blocks: u64, salt: &Salt, root: &Digest, digest: &Digest) -> Line
 // The lines of a tree.
 fn measured(tree: &Tree, salt: &Salt) -> Line
     requires { tree.now.size ≤ 2 ^ 30 }
-    ensures { (content : List ℕ) → IsTree content salt.now tree.now → result ≡ measure_lines content salt.now }
+    ensures { (content : List ℕ) → IsTree content salt.now tree.now → result
+        ≡ measure_lines content salt.now }
 {
     let digest = file_digest(&Descriptor {
         size: tree.size,
@@ -65,8 +66,15 @@ pub(crate) fn measure_file<F: Folder, L: Sink>(
     folder: &mut F,
     log: &mut L,
 ) -> Status
-    ensures measures { Measures (record { old = F.files folder.old; new = F.files folder.new; last = F.last_failed folder.new }) (record { old = L.holds log.old; new = L.holds log.new }) file.now salt result }
-    ensures file { FileCause (F.faults folder.old) (F.faults folder.new) (F.last_failed folder.new) result }
+    ensures measures { Measures
+        (record {
+          old = F.files folder.old;
+          new = F.files folder.new;
+          last = F.last_failed folder.new;
+        })
+        (record { old = L.holds log.old; new = L.holds log.new }) file.now salt result }
+    ensures file { FileCause (F.faults folder.old) (F.faults folder.new)
+        (F.last_failed folder.new) result }
     ensures write { result ≡ Status.WriteFault → Rose (L.faults log.old) (L.faults log.new) }
     ensures log { L.faults log.old ≤ L.faults log.new }
 {
@@ -86,8 +94,10 @@ fn signed(alloc: Global, tree: &Tree, salt: &Salt) -> Result<Vec<u8>, Memory>
     requires few { tree.now.size ≤ 2 ^ 30 }
     requires enough { 2 ≤ block_count tree.now.size }
     requires tree { (content : List ℕ) × IsTree content salt.now tree.now }
-    ensures value { (content : List ℕ) → IsTree content salt.now tree.now → IfOk result (λ v. v.items ≡ idsig_for content salt.now) }
-    ensures grammar { (content : List ℕ) → IsTree content salt.now tree.now → OnOk result (IsIdsigFor content salt.now) }
+    ensures value { (content : List ℕ) → IsTree content salt.now tree.now
+        → IfOk result (λ v. v.items ≡ idsig_for content salt.now) }
+    ensures grammar { (content : List ℕ) → IsTree content salt.now tree.now
+        → OnOk result (IsIdsigFor content salt.now) }
 {
     let mut out = Vec::new(alloc);
     match write_idsig(salt, &tree.root, &[], &tree.stored, &mut out) {
@@ -104,8 +114,12 @@ pub(crate) fn sign_file<F: Folder>(
     out: &str,
     folder: &mut F,
 ) -> Status
-    ensures signs { (log : Option (List ℕ)) → Signs (record { old = F.files folder.old; new = F.files folder.new; last = F.last_failed folder.new }) (record { old = log; new = log }) file.now salt out.now result }
-    ensures file { FileCause (F.faults folder.old) (F.faults folder.new) (F.last_failed folder.new) result }
+    ensures signs { (log : Option (List ℕ))
+        → Signs (record
+        { old = F.files folder.old; new = F.files folder.new; last = F.last_failed folder.new })
+        (record { old = log; new = log }) file.now salt out.now result }
+    ensures file { FileCause (F.faults folder.old) (F.faults folder.new)
+        (F.last_failed folder.new) result }
     ensures never { result ≡ Status.WriteFault → ⊥ }
 {
     let tree = match tree_of(alloc, folder, file, salt) {

@@ -91,7 +91,8 @@ fn is_named(line: &PartLine, lines: &[PartLine]) -> bool
 // Adds a line.
 #[tactic(auto, unfolding(crate::specs::Parts::add_part))]
 fn add_part(lines: &mut Vec<PartLine>, number: u64, line: PartLine) -> Result<(), LineFault>
-    ensures { MatchResult result (λ _. add_part lines.old.items number line ≡ Ok lines.new.items) (λ e. Fails e (add_part lines.old.items number line)) }
+    ensures { MatchResult result (λ _. add_part lines.old.items number line ≡ Ok lines.new.items)
+        (λ e. Fails e (add_part lines.old.items number line)) }
 {
     if is_named(&line, lines) {
         return Err(LineFault::Kind(PlanKind::Twice));
@@ -106,7 +107,9 @@ fn take_line(
     number: u64,
     line: &[u8],
 ) -> Result<(), LineFault>
-    ensures { MatchResult result (λ _. adds part_line_of add_part lines.old.items number line.now ≡ Ok lines.new.items) (λ e. Fails e (adds part_line_of add_part lines.old.items number line.now)) }
+    ensures { MatchResult result
+        (λ _. adds part_line_of add_part lines.old.items number line.now ≡ Ok lines.new.items)
+        (λ e. Fails e (adds part_line_of add_part lines.old.items number line.now)) }
 {
     let item = part_line_of(alloc, line)?;
     add_part(lines, number, item)
@@ -166,7 +169,8 @@ pub fn read_parts(alloc: Global, bytes: &[u8]) -> Result<Vec<PartLine>, PlanFaul
     // What is read is in the grammar.
     ensures found { IfOk result (λ v. IsParts bytes.now v.items) }
     // What is in the grammar is read, unless memory runs out.
-    ensures only { (parts : List PartLine) → IsParts bytes.now parts → TellsParts result (Ok parts) }
+    ensures only { (parts : List PartLine) → IsParts bytes.now parts
+        → TellsParts result (Ok parts) }
     // The list; or the first line that breaks a rule, and the first rule that it breaks.
     ensures exact { TellsParts result (parts_of bytes.now) }
     // Each line is well formed.

@@ -73,7 +73,8 @@ fn load_piece<F: Folder>(
     ensures ok { IfOk result (PieceLoaded (F.files folder.old) line.now loaded.old loaded.new) }
     ensures limit { OnOk result (loaded.new ≤ 2 ^ 31) }
     ensures err { IfErr result (LoadFault (F.files folder.old) line.now.file loaded.old) }
-    ensures cause { LoadsCause (F.faults folder.old) (F.faults folder.new) (F.last_failed folder.new) result }
+    ensures cause { LoadsCause (F.faults folder.old) (F.faults folder.new)
+        (F.last_failed folder.new) result }
 {
     let size = match load(alloc, folder, line.file.as_str(), loaded) {
         Ok(bytes) => bytes.len() as u64,
@@ -94,9 +95,11 @@ fn load_pieces<F: Folder>(
 ) -> Result<Vec<Piece>, Status>
     requires { loaded.old ≤ 2 ^ 31 }
     ensures files { F.files folder.new ≡ F.files folder.old }
-    ensures ok { IfOk result (λ v. PiecesLoaded (F.files folder.old) lines.now loaded.old loaded.new v.items) }
+    ensures ok { IfOk result
+        (λ v. PiecesLoaded (F.files folder.old) lines.now loaded.old loaded.new v.items) }
     ensures err { IfErr result (PiecesFail (F.files folder.old) lines.now loaded.old) }
-    ensures cause { LoadsCause (F.faults folder.old) (F.faults folder.new) (F.last_failed folder.new) result }
+    ensures cause { LoadsCause (F.faults folder.old) (F.faults folder.new)
+        (F.last_failed folder.new) result }
 {
     let mut pieces = Vec::new(alloc);
     let mut index = 0;
@@ -122,7 +125,8 @@ pub(crate) fn load_parts<F: Folder>(
     ensures files { F.files folder.new ≡ F.files folder.old }
     ensures outcome { InputsOutcome (F.files folder.old) list.now result }
     ensures each { IfOk result (λ v. AllByRecursion IsPiece v.items) }
-    ensures cause { LoadsCause (F.faults folder.old) (F.faults folder.new) (F.last_failed folder.new) result }
+    ensures cause { LoadsCause (F.faults folder.old) (F.faults folder.new)
+        (F.last_failed folder.new) result }
 {
     let mut loaded = 0;
     let text = match load(alloc, folder, list, &mut loaded) {

@@ -14,8 +14,15 @@ use std::alloc::Global;
 
 // What the words ask for, before the end line.
 fn make<F: Folder, L: Sink>(alloc: Global, words: &[String], folder: &mut F, log: &mut L) -> Status
-    ensures makes { Makes (wish_of (map string_bytes words.now)) (record { old = F.files folder.old; new = F.files folder.new; last = F.last_failed folder.new }) (record { old = L.holds log.old; new = L.holds log.new }) result }
-    ensures file { FileCause (F.faults folder.old) (F.faults folder.new) (F.last_failed folder.new) result }
+    ensures makes { Makes (wish_of (map string_bytes words.now))
+        (record {
+          old = F.files folder.old;
+          new = F.files folder.new;
+          last = F.last_failed folder.new;
+        })
+        (record { old = L.holds log.old; new = L.holds log.new }) result }
+    ensures file { FileCause (F.faults folder.old) (F.faults folder.new)
+        (F.last_failed folder.new) result }
     ensures write { result ≡ Status.WriteFault → Rose (L.faults log.old) (L.faults log.new) }
     ensures log { L.faults log.old ≤ L.faults log.new }
 {
@@ -42,8 +49,15 @@ pub fn mkguest<F: Folder, L: Sink>(
     folder: &mut F,
     log: &mut L,
 ) -> Status
-    ensures made { Mkguest (wish_of (map string_bytes words.now)) (record { old = F.files folder.old; new = F.files folder.new; last = F.last_failed folder.new }) (record { old = L.holds log.old; new = L.holds log.new }) result }
-    ensures file { FileCause (F.faults folder.old) (F.faults folder.new) (F.last_failed folder.new) result }
+    ensures made { Mkguest (wish_of (map string_bytes words.now))
+        (record {
+          old = F.files folder.old;
+          new = F.files folder.new;
+          last = F.last_failed folder.new;
+        })
+        (record { old = L.holds log.old; new = L.holds log.new }) result }
+    ensures file { FileCause (F.faults folder.old) (F.faults folder.new)
+        (F.last_failed folder.new) result }
     ensures write { result ≡ Status.WriteFault → Rose (L.faults log.old) (L.faults log.new) }
 {
     let status = make(alloc, words, folder, log);

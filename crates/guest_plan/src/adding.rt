@@ -97,7 +97,8 @@ fn is_taken(line: &PlanLine, lines: &[PlanLine]) -> bool
 /// Adds what the line `number` says.
 #[tactic(auto, unfolding(crate::specs::Plans::add))]
 pub(crate) fn add(plan: &mut Plan, number: u64, item: Item) -> Result<(), LineFault>
-    ensures { MatchResult result (λ _. add (known plan.old) number item ≡ Ok (known plan.new)) (λ e. Fails e (add (known plan.old) number item)) }
+    ensures { MatchResult result (λ _. add (known plan.old) number item ≡ Ok (known plan.new))
+        (λ e. Fails e (add (known plan.old) number item)) }
 {
     match item {
         Item::Secret(bytes) => {

@@ -30,7 +30,9 @@ impl Model for PlanReader {
 
 // Takes a line.
 fn take_line(alloc: Global, plan: &mut Plan, number: u64, line: &[u8]) -> Result<(), LineFault>
-    ensures { MatchResult result (λ _. adds item_of add (known plan.old) number line.now ≡ Ok (known plan.new)) (λ e. Fails e (adds item_of add (known plan.old) number line.now)) }
+    ensures { MatchResult result
+        (λ _. adds item_of add (known plan.old) number line.now ≡ Ok (known plan.new))
+        (λ e. Fails e (adds item_of add (known plan.old) number line.now)) }
 {
     let item = item_of(alloc, line)?;
     add(plan, number, item)

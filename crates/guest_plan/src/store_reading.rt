@@ -176,7 +176,8 @@ fn store_missing(lines: &[StoreLine]) -> Option<u64>
 /// Adds a line.
 #[tactic(auto, unfolding(crate::specs::Stores::add_store))]
 fn add_store(lines: &mut Vec<StoreLine>, number: u64, line: StoreLine) -> Result<(), LineFault>
-    ensures { MatchResult result (λ _. add_store lines.old.items number line ≡ Ok lines.new.items) (λ e. Fails e (add_store lines.old.items number line)) }
+    ensures { MatchResult result (λ _. add_store lines.old.items number line ≡ Ok lines.new.items)
+        (λ e. Fails e (add_store lines.old.items number line)) }
 {
     if is_stored(&line, lines) {
         return Err(LineFault::Kind(PlanKind::Twice));
@@ -191,7 +192,9 @@ fn take_store_line(
     number: u64,
     line: &[u8],
 ) -> Result<(), LineFault>
-    ensures { MatchResult result (λ _. adds store_line_of add_store lines.old.items number line.now ≡ Ok lines.new.items) (λ e. Fails e (adds store_line_of add_store lines.old.items number line.now)) }
+    ensures { MatchResult result
+        (λ _. adds store_line_of add_store lines.old.items number line.now ≡ Ok lines.new.items)
+        (λ e. Fails e (adds store_line_of add_store lines.old.items number line.now)) }
 {
     let item = store_line_of(alloc, line)?;
     add_store(lines, number, item)
@@ -264,7 +267,8 @@ pub fn read_store(alloc: Global, bytes: &[u8]) -> Result<Store, PlanFault>
     // What is read is in the grammar.
     ensures found { IfOk result (λ s. IsStore bytes.now s.lines.items) }
     // What is in the grammar is read, unless memory runs out.
-    ensures only { (lines : List StoreLine) → IsStore bytes.now lines → TellsStore result (Ok lines) }
+    ensures only { (lines : List StoreLine) → IsStore bytes.now lines
+        → TellsStore result (Ok lines) }
     // The list; or the first line that breaks a rule, and the first rule that it breaks.
     ensures exact { TellsStore result (store_of bytes.now) }
 {

@@ -87,7 +87,8 @@ fn put_blob(
 }
 
 fn put_apk_place(alloc: Global, out: &mut Vec<u8>, disk: u32, apk: &Name) -> Result<(), AllocError>
-    ensures { OnOk result (out.new.items ≡ out.old.items ++ (codes "apk" then decimal disk then apk.now)) }
+    ensures { OnOk result
+        (out.new.items ≡ out.old.items ++ (codes "apk" then decimal disk then apk.now)) }
 {
     out.extend_from_slice(b"apk ")?;
     put_number(alloc, out, u64::from(disk))?;
@@ -101,7 +102,8 @@ fn put_apk_measure(
     idsig: &Name,
     how: &How,
 ) -> Result<(), AllocError>
-    ensures { OnOk result (out.new.items ≡ out.old.items ++ (32 ∷ (idsig.now then how_text how.now))) }
+    ensures { OnOk result
+        (out.new.items ≡ out.old.items ++ (32 ∷ (idsig.now then how_text how.now))) }
 {
     out.push(b' ')?;
     out.extend_from_slice(idsig.as_str().as_bytes())?;
@@ -117,7 +119,8 @@ fn put_apk(
     idsig: &Name,
     how: &How,
 ) -> Result<(), AllocError>
-    ensures { OnOk result (out.new.items ≡ out.old.items ++ served_text (Apk disk apk.now idsig.now how.now)) }
+    ensures { OnOk result
+        (out.new.items ≡ out.old.items ++ served_text (Apk disk apk.now idsig.now how.now)) }
 {
     put_apk_place(alloc, out, disk, apk)?;
     put_apk_measure(alloc, out, idsig, how)
@@ -130,7 +133,8 @@ fn put_file(
     file: u32,
     digest: &Digest,
 ) -> Result<(), AllocError>
-    ensures { OnOk result (out.new.items ≡ out.old.items ++ served_text (File name.now file digest.now)) }
+    ensures { OnOk result
+        (out.new.items ≡ out.old.items ++ served_text (File name.now file digest.now)) }
 {
     out.extend_from_slice(b"file ")?;
     put_named(alloc, out, name, file)?;
@@ -180,7 +184,8 @@ fn put_line(alloc: Global, out: &mut Vec<u8>, line: &PlanLine) -> Result<(), All
 }
 
 fn put_lines(alloc: Global, out: &mut Vec<u8>, lines: &[PlanLine]) -> Result<(), AllocError>
-    ensures { OnOk result (out.new.items ≡ out.old.items ++ flat_map (λ l. ended (served_text l)) lines.now) }
+    ensures { OnOk result
+        (out.new.items ≡ out.old.items ++ flat_map (λ l. ended (served_text l)) lines.now) }
 {
     for line in lines {
         put_line(alloc, out, line)?;
@@ -189,7 +194,9 @@ fn put_lines(alloc: Global, out: &mut Vec<u8>, lines: &[PlanLine]) -> Result<(),
 }
 
 fn put_secret(out: &mut Vec<u8>, secret: &Option<[u8; 32]>) -> Result<(), AllocError>
-    ensures { OnOk result (out.new.items ≡ out.old.items ++ flat_map (λ i. ended (item_text i)) (secret_items secret.now)) }
+    ensures { OnOk result
+        (out.new.items
+        ≡ out.old.items ++ flat_map (λ i. ended (item_text i)) (secret_items secret.now)) }
 {
     if let Some(bytes) = secret {
         out.extend_from_slice(b"secret ")?;
@@ -200,7 +207,9 @@ fn put_secret(out: &mut Vec<u8>, secret: &Option<[u8; 32]>) -> Result<(), AllocE
 }
 
 fn put_instance_salt(out: &mut Vec<u8>, salt: &Option<[u8; 64]>) -> Result<(), AllocError>
-    ensures { OnOk result (out.new.items ≡ out.old.items ++ flat_map (λ i. ended (item_text i)) (salt_items salt.now)) }
+    ensures { OnOk result
+        (out.new.items
+        ≡ out.old.items ++ flat_map (λ i. ended (item_text i)) (salt_items salt.now)) }
 {
     if let Some(bytes) = salt {
         out.extend_from_slice(b"salt ")?;

@@ -175,7 +175,8 @@ pub fn read_head(bytes: &[u8], total: u64) -> Result<Head, IdsigFault>
     // What is spelled so is read.
     ensures only { (h : Head) → IsFront bytes.now total h → result ≡ Ok h }
     // Of each file that begins so, a head is read exactly where the file is an idsig with this head.
-    ensures files { (file : List ℕ) (h : Head) → length file ≡ total → take 69632 file ≡ bytes.now → ((result ≡ Ok h) ↔ IsIdsig file h) }
+    ensures files { (file : List ℕ) (h : Head) → length file ≡ total → take 69632 file ≡ bytes.now
+        → ((result ≡ Ok h) ↔ IsIdsig file h) }
 {
     head_of(bytes, total)
 }

@@ -59,8 +59,10 @@ fn put_info(salt: &[u8], root: &[u8; 32], out: &mut Vec<u8>)
 fn put_front(salt: &[u8], root: &[u8; 32], signing: &[u8], tree_len: u32, out: &mut Vec<u8>)
     requires few { length salt.now ≤ 32 }
     requires most { length signing.now ≤ 65536 }
-    requires space { vec_len out.old + (61 + length salt.now + length signing.now) ≤ vec_capacity out.old }
-    ensures text { out.new.items ≡ out.old.items ++ front_bytes salt.now root.now signing.now tree_len }
+    requires space { vec_len out.old + (61 + length salt.now + length signing.now)
+        ≤ vec_capacity out.old }
+    ensures text { out.new.items
+        ≡ out.old.items ++ front_bytes salt.now root.now signing.now tree_len }
     ensures len { vec_len out.new ≡ vec_len out.old + (61 + length salt.now + length signing.now) }
     ensures room { vec_capacity out.old ≤ vec_capacity out.new }
 {
@@ -82,9 +84,12 @@ pub fn write_idsig(
     requires most { length signing.now ≤ 65536 }
     requires some { 1 ≤ length tree.now }
     requires size { length tree.now ≤ 2 ^ 30 }
-    ensures text { OnOk result (out.new.items ≡ out.old.items ++ idsig_bytes salt.now root.now.0 signing.now tree.now) }
+    ensures text { OnOk result
+        (out.new.items ≡ out.old.items ++ idsig_bytes salt.now root.now.0 signing.now tree.now) }
     // These bytes are an idsig, and are read as its head.
-    ensures again { OnOk result (IsIdsig (idsig_bytes salt.now root.now.0 signing.now tree.now) (head_for salt.now root.now signing.now tree.now)) }
+    ensures again { OnOk result
+        (IsIdsig (idsig_bytes salt.now root.now.0 signing.now tree.now)
+        (head_for salt.now root.now signing.now tree.now)) }
     ensures read { OnOk result (head_of (take 69632 (idsig_bytes salt.now root.now.0 signing.now tree.now)) (length (idsig_bytes salt.now root.now.0 signing.now tree.now))
         ≡ Ok (head_for salt.now root.now signing.now tree.now)) }
     ensures unchanged { OnErr result (out.new.items ≡ out.old.items) }

@@ -39,7 +39,8 @@ impl Page {
     /// Overwrites the bytes from `at` on. It takes no memory.
     pub fn put(&mut self, at: usize, bytes: &[u8])
         requires { at + length bytes.now ≤ 4096 }
-        ensures value { self.new ≡ take at self.old ++ bytes.now ++ drop (at + length bytes.now) self.old }
+        ensures value { self.new
+            ≡ take at self.old ++ bytes.now ++ drop (at + length bytes.now) self.old }
         ensures len { length self.old ≡ 4096 }
     {
         let end = at + bytes.len();

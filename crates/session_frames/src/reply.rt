@@ -28,8 +28,10 @@ fn head(channel: u8, len: u32, code: u32) -> [u8; 12]
 
 // Writes two pieces, one after the other.
 fn send<K: Sink>(first: &[u8], second: &[u8], sink: &mut K) -> Result<(), Failed>
-    ensures ok { OnOk result (Appends (K.holds sink.old) (K.holds sink.new) (first.now ++ second.now)) }
-    ensures err { OnErr result (SomePrefix (K.holds sink.old) (K.holds sink.new) (first.now ++ second.now)) }
+    ensures ok { OnOk result
+        (Appends (K.holds sink.old) (K.holds sink.new) (first.now ++ second.now)) }
+    ensures err { OnErr result
+        (SomePrefix (K.holds sink.old) (K.holds sink.new) (first.now ++ second.now)) }
     ensures cause { HasCause (K.faults sink.old) (K.faults sink.new) result }
 {
     match sink.write_all(first) {
@@ -41,8 +43,12 @@ fn send<K: Sink>(first: &[u8], second: &[u8], sink: &mut K) -> Result<(), Failed
 
 /// Writes the frame of a reply. After `Failed` a front part of it was written. It takes no memory.
 pub fn write_frame<K: Sink>(frame: &ReplyFrame, served: &Served, sink: &mut K) -> Result<(), Failed>
-    ensures ok { OnOk result (Appends (K.holds sink.old) (K.holds sink.new) (reply_frame (sent_of frame.now served.now))) }
-    ensures err { OnErr result (SomePrefix (K.holds sink.old) (K.holds sink.new) (reply_frame (sent_of frame.now served.now))) }
+    ensures ok { OnOk result
+        (Appends (K.holds sink.old) (K.holds sink.new)
+        (reply_frame (sent_of frame.now served.now))) }
+    ensures err { OnErr result
+        (SomePrefix (K.holds sink.old) (K.holds sink.new)
+        (reply_frame (sent_of frame.now served.now))) }
     ensures cause { HasCause (K.faults sink.old) (K.faults sink.new) result }
 {
     match *frame {

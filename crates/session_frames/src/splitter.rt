@@ -122,7 +122,8 @@ impl Splitter {
 
     /// Drops the frame at the front.
     pub fn done(&mut self)
-        requires frame { (channel : ℕ) × (payload : List ℕ) × (rest : List ℕ) × Fronts self.old.held channel payload rest }
+        requires frame { (channel : ℕ) × (payload : List ℕ) × (rest : List ℕ)
+            × Fronts self.old.held channel payload rest }
         requires at { self.old.at + length self.old.held < 2 ^ 64 }
         ensures { (channel : ℕ) (payload rest : List ℕ) → Fronts self.old.held channel payload rest
             → self.new ≡ record { held = rest; at = self.old.at + length (frame channel payload) } }

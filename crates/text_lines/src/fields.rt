@@ -7,7 +7,8 @@ use crate::kinds::{LineFault, PlanKind};
 
 /// What stands before the first `at`, and behind it.
 pub fn cut(bytes: &[u8], at: u8) -> Option<(&[u8], &[u8])>
-    ensures found { MatchOption result (cut at bytes.now ≡ None) (λ x. cut at bytes.now ≡ Some (x.0.now, x.1.now)) }
+    ensures found { MatchOption result (cut at bytes.now ≡ None)
+        (λ x. cut at bytes.now ≡ Some (x.0.now, x.1.now)) }
     ensures shorter { IfSome result (λ x. length x.1.now < length bytes.now) }
 {
     for (i, byte) in bytes.iter().enumerate() {
@@ -80,7 +81,8 @@ pub fn four_fields(line: &[u8]) -> Result<(&[u8], &[u8], &[u8], &[u8]), LineFaul
 
 #[tactic(auto, unfolding(crate::specs::Fields::five_fields))]
 pub fn five_fields(line: &[u8]) -> Result<(&[u8], &[u8], &[u8], &[u8], &[u8]), LineFault>
-    ensures { Gives (λ x. (x.0.now, x.1.now, x.2.now, x.3.now, x.4.now)) result (five_fields line.now) }
+    ensures { Gives (λ x. (x.0.now, x.1.now, x.2.now, x.3.now, x.4.now)) result
+        (five_fields line.now) }
 {
     let (word, rest) = field(line)?;
     let (first, second, third, fourth) = four_fields(rest)?;

@@ -28,7 +28,9 @@ fn take_numbered<R: LineReader>(
     number: u64,
     line: &[u8],
 ) -> Result<(), LineFault>
-    ensures value { MatchResult result (λ _. numbered header.now R.step reader.old number line.now ≡ Ok reader.new) (λ e. Fails e (numbered header.now R.step reader.old number line.now)) }
+    ensures value { MatchResult result
+        (λ _. numbered header.now R.step reader.old number line.now ≡ Ok reader.new)
+        (λ e. Fails e (numbered header.now R.step reader.old number line.now)) }
     ensures few { OnOk result (number ≤ 4096) }
 {
     if 4096 < number {
@@ -66,7 +68,9 @@ pub fn read_lines<R: LineReader>(
     bytes: &[u8],
     reader: &mut R,
 ) -> Result<(), PlanFault>
-    ensures { MatchResult result (λ _. text_of header.now R.step reader.old bytes.now ≡ Ok reader.new) (λ f. Refuses f (text_of header.now R.step reader.old bytes.now)) }
+    ensures { MatchResult result
+        (λ _. text_of header.now R.step reader.old bytes.now ≡ Ok reader.new)
+        (λ f. Refuses f (text_of header.now R.step reader.old bytes.now)) }
 {
     let mut rest = bytes;
     let mut number = 1;

@@ -49,7 +49,8 @@ fn counted(n: u64, limit: u64, digit: u8) -> u64
     requires bound { n < 10 * limit + 10 }
     requires low { 48 ≤ digit }
     requires high { digit < 58 }
-    ensures { (value : ℕ) → Counts limit value n → Counts limit (value * 10 + digit_value digit) result }
+    ensures { (value : ℕ) → Counts limit value n
+        → Counts limit (value * 10 + digit_value digit) result }
 {
     if n < limit {
         10 * n + u64::from(digit - b'0')
@@ -91,7 +92,8 @@ fn parse_number(low: u64, limit: u64, text: &[u8]) -> Result<u64, LineFault>
 #[tactic(auto, unfolding(crate::specs::Values::hex_of))]
 pub fn read_hex(text: &[u8], out: &mut [u8]) -> Result<(), LineFault>
     requires { length out.old ≤ 64 }
-    ensures { MatchResult result (λ _. hex_of (length out.old) text.now ≡ Ok out.new) (λ e. Fails e (hex_of (length out.old) text.now)) }
+    ensures { MatchResult result (λ _. hex_of (length out.old) text.now ≡ Ok out.new)
+        (λ e. Fails e (hex_of (length out.old) text.now)) }
 {
     if hex::decode_to_slice(text, out).is_err() {
         return Err(LineFault::Kind(PlanKind::Hex));
@@ -270,7 +272,8 @@ pub fn number_in(low: u64, limit: u64, text: &[u8]) -> Result<u64, LineFault>
     // What is read is spelled so.
     ensures found { IfOk result (λ n. (text.now ≡ decimal n) × (low ≤ n) × (n < limit)) }
     // What is spelled so is read.
-    ensures only { (n : ℕ) → text.now ≡ decimal n → low ≤ n → n < limit → Gives (λ m. m) result (Ok n) }
+    ensures only { (n : ℕ) → text.now ≡ decimal n → low ≤ n → n < limit
+        → Gives (λ m. m) result (Ok n) }
 {
     parse_number(low, limit, text)
 }
@@ -282,7 +285,8 @@ pub fn hex32(text: &[u8]) -> Result<[u8; 32], LineFault>
     // What is read is spelled so.
     ensures found { IfOk result (λ b. text.now ≡ encode_lower b) }
     // What is spelled so is read.
-    ensures only { (b : List ℕ) → IsHexed 32 b → text.now ≡ encode_lower b → Gives (λ x. x) result (Ok b) }
+    ensures only { (b : List ℕ) → IsHexed 32 b → text.now ≡ encode_lower b
+        → Gives (λ x. x) result (Ok b) }
 {
     parse_hex32(text)
 }
@@ -294,7 +298,8 @@ pub fn hex64(text: &[u8]) -> Result<[u8; 64], LineFault>
     // What is read is spelled so.
     ensures found { IfOk result (λ b. text.now ≡ encode_lower b) }
     // What is spelled so is read.
-    ensures only { (b : List ℕ) → IsHexed 64 b → text.now ≡ encode_lower b → Gives (λ x. x) result (Ok b) }
+    ensures only { (b : List ℕ) → IsHexed 64 b → text.now ≡ encode_lower b
+        → Gives (λ x. x) result (Ok b) }
 {
     parse_hex64(text)
 }

@@ -83,7 +83,8 @@ pub fn decode(bytes: &[u8; 256]) -> Result<Descriptor, DescriptorFault>
     // What is read is spelled so.
     ensures found { IfOk result (λ d. IsDescriptor d × (bytes.now ≡ descriptor_bytes d)) }
     // What is spelled so is read.
-    ensures only { (d : Descriptor) → IsDescriptor d → bytes.now ≡ descriptor_bytes d → result ≡ Ok d }
+    ensures only { (d : Descriptor) → IsDescriptor d → bytes.now ≡ descriptor_bytes d → result
+        ≡ Ok d }
     // A refusal names the first rule that is broken, and comes only where one is.
     ensures refused { fault_of result ≡ first_fault bytes.now }
 {
