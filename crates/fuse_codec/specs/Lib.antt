@@ -1,0 +1,9 @@
+pub mod Words
+pub mod Message
+pub mod Spelling
+pub mod Reading
+pub mod Faults
+pub mod Said
+pub mod Reply
+pub mod Sent
+pub mod Pieces
