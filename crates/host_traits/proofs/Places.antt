@@ -1,9 +1,12 @@
 -- The place of a name among files, and what is found there.
 use Rattle.std.proofs.Common.{if◌then◌else◌, ◌≡◌, ℕ, zero, suc, ◌+◌, ◌<◌, ◌≤◌, Bool, true, false, List, [], ◌∷◌, ◌++◌, length, get_or, set, add-one, refl, sym, ◌∙◌, ap, subst, arith, Some, None}
+use Rattle.std.proofs.Common.{not, ◌||◌, leb}
 use Rattle.host_traits.specs.Folders.{is_name, with_named}
+use Rattle.host_traits.specs.Held.{is_there}
 use Rattle.host_traits.specs.Mem.{Named, found_in, place_in}
 use Rattle.std.specs.Cmp.Lexicographic.{pointwise_decides}
 use Rattle.std.proofs.lemmas.Bool.Decides.{Decides-eqb}
+use Rattle.std.proofs.Math.Dec.{leb-suc-zero, leb-suc-suc}
 
 pub name_is : (a b : List ℕ) → is_name a b ≡ true → a ≡ b
 name_is a b e = (pointwise_decides Decides-eqb a b).0 e
@@ -88,3 +91,24 @@ found_push [] f le other = refl
 found_push (x ∷ files) f le other =
     let past = place_past (is_name x.name f.name) (length files) (place_in files f.name) (omega (arith, le)) in
     choose_two (is_name x.name other) (is_name f.name other) (Some x.bytes) (Some f.bytes) _ _ (apart x.name f.name other past.0) (found_push files f past.1 other)
+
+-- nothing is found exactly where the place is past the end
+pub past_end : (files : List Named) (name : List ℕ) → leb (length files) (place_in files name) ≡ not (is_there (found_in files name))
+past_end [] name = refl
+past_end (f ∷ files) name =
+    elim (is_name f.name name) as (λ b. leb (suc (length files)) (if b then 0 else place_in files name + 1) ≡ not (is_there (if b then Some f.bytes else found_in files name)))
+    [ true ↦ leb-suc-zero (length files) | false ↦ rw (add-one, leb-suc-suc) (past_end files name) ]
+
+negated : (a b listed answer : Bool) → a ≡ b → answer ≡ not (a || listed) → (b || listed) ≡ not answer
+negated true true listed answer same is = rw is refl
+negated true false listed answer same is = cc
+negated false true listed answer same is = cc
+negated false false true answer same is = rw is refl
+negated false false false answer same is = rw is refl
+
+-- whether a load fails, from what was counted
+pub load_fails : (files : List Named) (name : List ℕ) (len at : ℕ) (listed answer : Bool) → at ≡ place_in files name → len ≡ length files → answer ≡ not (leb len at || listed) →
+    (not (is_there (found_in files name)) || listed) ≡ not answer
+load_fails files name len at listed answer at_is len_is is =
+    let same : leb len at ≡ not (is_there (found_in files name)) = rw (at_is, len_is) (past_end files name) in
+    negated _ _ _ _ same is

@@ -4,6 +4,7 @@ use Rattle.std.specs.Borrow.{Lends, MutBor, Fml, Array, u8}
 use Rattle.host_traits.specs.Held.{resized}
 use Rattle.host_traits.specs.contracts.answers.Raw.{the_row}
 
--- it ends as the bytes that stand behind r when the borrow ends: r has so many from first to last
+-- It ends as the bytes that stand behind r when the borrow ends: a slice keeps its length, so these are `len`.
 abbrev pub LendsRoom : MutBor (List ℕ) → ℕ → MutBor (List ℕ) → Fml
-LendsRoom s len r = Lends the_row (Array u8 0) s r (λ bytes. take len (bytes ++ drop (length bytes) (resized s.now len)))
+LendsRoom s len r =
+    Lends the_row (Array u8 0) s r (λ bytes. take len (bytes ++ drop (length bytes) (resized s.now len)))

@@ -8,7 +8,7 @@ use mg_base::Memory;
 use std::alloc::Global;
 use std::marker::Model;
 
-/// The most bytes that one answer has: 136 sectors of 512 bytes.
+/// The most bytes of one answer: 136 sectors of 512 bytes.
 pub const MOST: usize = 69632;
 
 /// The bytes of one answer, at most 69,632. Contracts see the list of them.
@@ -84,8 +84,8 @@ impl Raw {
         let _ = self.bytes.extend_from_slice(bytes);
     }
 
-    /// Cuts it to so many bytes, or adds zeros, and lends them to be overwritten in place: it holds then what stands there when
-    /// the borrow ends. It takes no memory.
+    /// Cuts it to so many bytes, or adds zeros, and lends them to be overwritten in place: it holds
+    /// then what stands there when the borrow ends. It takes no memory.
     pub fn room(&mut self, len: usize) -> &mut [u8]
         requires { len ≤ 69632 }
         ensures* writes_back { sem 𝓛 (LendsRoom self.entry len result) }

@@ -8,18 +8,24 @@ use std::alloc::Global;
 /// Why a folder did not do what it was called for.
 #[derive(Clone, Copy, Debug, PartialEq, Eq, Drop)]
 pub enum FolderError {
+    /// The file isn't there, or can't be read or written. The folder's count of faults rose, and
+    /// this call is its last that failed.
     Failed,
+    /// Out of memory, for the bytes or for a copy of the name. The last call that failed stays.
     Memory,
 }
 
 /// A call of a folder, by the name of its file.
 #[derive(Drop)]
 pub enum FolderCall {
+    /// The file, or a part of it, was loaded.
     Load(String),
+    /// The file was stored.
     Store(String),
 }
 
-/// Files by name.
+/// Files by name. A name is any text. It keeps its count of faults and the last call that failed
+/// itself.
 pub trait Folder {
     /// The files, where they are known.
     ghost files: { Self → Option Files };
@@ -30,17 +36,20 @@ pub trait Folder {
     /// The last call that failed.
     ghost last_failed: { Self → Option Errand };
 
-    /// The bytes of a file, but at most `max` and one: one more than `max` says that it is longer.
-    /// It fails for a name that isn't there, and changes no file.
+    /// The first `max + 1` bytes of a file, or all where it has fewer: so a file of more than `max`
+    /// bytes shows by the length of what is given. It fails for a name that isn't there, and
+    /// changes no file.
     fn load(&mut self, alloc: Global, name: &str, max: u64) -> Result<Vec<u8>, FolderError>
         requires { max < 2 ^ 63 }
         ensures files { files self.new ≡ files self.old }
         ensures loaded { Loaded (files self.old) name.now max result }
-        ensures cause { HasErrand (load_of name.now) (faults self.old) (faults self.new) (last_failed self.old) (last_failed self.new) result };
+        ensures cause { HasErrand (load_of name.now) (faults self.old) (faults self.new)
+            (last_failed self.old) (last_failed self.new) result };
 
-    /// The bytes of a file from `at` on, but at most `max`: fewer say that the file ends there, none that it has no byte at `at`.
-    /// It fails for a name that isn't there, and changes no file. A folder whose files are large may do better than to load what
-    /// stands before.
+    /// The bytes of a file from byte `at` on, at most `max` of them: fewer say that the file ends
+    /// there, none that it has no byte at `at`. It fails for a name that isn't there, and changes
+    /// no file. This body loads the whole front of the file: a folder that can read from any place
+    /// has one of its own.
     fn load_part(
         &mut self,
         alloc: Global,
@@ -52,7 +61,8 @@ pub trait Folder {
         ensures files { files self.new ≡ files self.old }
         ensures loaded { PartLoaded (files self.old) name.now at max result }
         ensures few { IfOk result (λ part. vec_len part ≤ max) }
-        ensures cause { HasErrand (load_of name.now) (faults self.old) (faults self.new) (last_failed self.old) (last_failed self.new) result }
+        ensures cause { HasErrand (load_of name.now) (faults self.old) (faults self.new)
+            (last_failed self.old) (last_failed self.new) result }
     {
         let front = match self.load(alloc, name, at + max) {
             Ok(front) => front,
@@ -66,8 +76,11 @@ pub trait Folder {
         }
     }
 
-    /// Puts a file there, or other bytes into the one of that name. After an error it is as before or holds the new bytes.
+    /// Makes a file of these bytes, or puts them in the place of those of the file of that name.
+    /// After an error the file is as before, absent where it was absent, or holds the new bytes. No
+    /// other file changes.
     fn store(&mut self, alloc: Global, name: &str, bytes: &[u8]) -> Result<(), FolderError>
         ensures stored { Stored (files self.old) (files self.new) name.now bytes.now result }
-        ensures cause { HasErrand (store_of name.now) (faults self.old) (faults self.new) (last_failed self.old) (last_failed self.new) result };
+        ensures cause { HasErrand (store_of name.now) (faults self.old) (faults self.new)
+            (last_failed self.old) (last_failed self.new) result };
 }

@@ -1,9 +1,9 @@
 // A folder in memory.
-ghost use Rattle.std.specs.Prelude.{◌≡◌, ◌≤◌, ◌<◌, ◌+◌, List, ℕ, [], length, take, slice_index_or, Some, None, IfOk, OnOk, OnErr};
+ghost use Rattle.std.specs.Prelude.{◌≡◌, ◌≤◌, ◌<◌, ◌+◌, ◌^◌, List, ℕ, [], length, vec_len, take, drop, slice_index_or, Some, None, IfOk, OnOk, OnErr};
 ghost use Rattle.std.specs.Option.{option_map};
 ghost use Rattle.std.specs.declared.option.Option.{Option};
-ghost use Rattle.host_traits.specs.Folders.{Errand, errand_of, Files, AreFiles, with_named, is_name};
-ghost use Rattle.host_traits.specs.Mem.{Shelf, Named, found_in, place_in, unused};
+ghost use Rattle.host_traits.specs.Folders.{Errand, load_of, store_of, errand_of, Files, AreFiles, Loaded, PartLoaded, Stored, HasErrand, with_named, is_name};
+ghost use Rattle.host_traits.specs.Mem.{Counts, FolderData, Named, Loads, Stores, is_lacking, is_listed, listing, called, failed, found_in, place_in, unused};
 
 use crate::folder::{Folder, FolderCall, FolderError};
 use crate::memory::Calls;
@@ -35,13 +35,16 @@ impl MemFile {
         self.name.as_str() == name
     }
 
-    // The bytes, cut behind so many.
-    fn front(&self, alloc: Global, most: u64) -> Result<Vec<u8>, Memory>
-        ensures { IfOk result (λ v. v.items ≡ take most self.now.bytes) }
+    // The bytes from a place on, cut behind so many.
+    fn part(&self, alloc: Global, at: u64, most: u64) -> Result<Vec<u8>, Memory>
+        requires { at + most < 2 ^ 64 }
+        ensures { IfOk result (λ v. v.items ≡ take most (drop at self.now.bytes)) }
     {
-        let len = most.min(self.bytes.len() as u64) as usize;
-        let front = Vec::from_slice(alloc, &self.bytes[..len])?;
-        Ok(front)
+        let len = self.bytes.len() as u64;
+        let from = at.min(len);
+        let end = (at + most).min(len);
+        let part = Vec::from_slice(alloc, &self.bytes[from as usize..end as usize])?;
+        Ok(part)
     }
 
     // The bytes.
@@ -59,7 +62,10 @@ impl MemFile {
     }
 }
 
-/// Files in memory.
+/// Files in memory, for tests. Loads, of a whole file or a part, and stores are numbered together
+/// from 0 since it was made, those that didn't end well among them. A load fails exactly where no
+/// file has the name or its number is listed, a store exactly where its number is listed; both may
+/// end for want of memory. A call that doesn't end well changes no file.
 #[derive(Drop)]
 pub struct MemFolder {
     files: Vec<MemFile>,
@@ -70,11 +76,15 @@ pub struct MemFolder {
 impl Model for MemFolder {
     ghost use Rattle.std.specs.Option.{option_map};
     ghost use Rattle.host_traits.specs.Folders.{errand_of};
-    ghost use Rattle.host_traits.specs.Mem.{Shelf};
+    ghost use Rattle.host_traits.specs.Mem.{FolderData};
 
-    ghost Value = { Shelf };
+    ghost Value = { FolderData };
 
-    ghost view = { λ f. record { files = f.files.items; tally = f.calls; last = option_map errand_of f.last } };
+    ghost view = { λ f. record {
+      files = f.files.items;
+      counts = f.calls;
+      last = option_map errand_of f.last;
+    } };
 }
 
 // The place of the first file of a name, or the end.
@@ -93,7 +103,8 @@ fn place_of(files: &[MemFile], name: &str) -> usize
 fn put_at(files: &mut Vec<MemFile>, at: usize, name: &str, bytes: Vec<u8>)
     requires place { at ≡ place_in files.old.items name.now }
     requires there { at < length files.old.items }
-    ensures { AreFiles (Some (found_in files.new.items)) (with_named (found_in files.old.items) name.now bytes.items) }
+    ensures { AreFiles (Some (found_in files.new.items))
+        (with_named (found_in files.old.items) name.now bytes.items) }
 {
     files[at].put(bytes);
 }
@@ -106,7 +117,8 @@ fn put_new(
     bytes: Vec<u8>,
 ) -> Result<(), Memory>
     requires { length files.old.items ≤ place_in files.old.items name.now }
-    ensures added { OnOk result (AreFiles (Some (found_in files.new.items)) (with_named (found_in files.old.items) name.now bytes.items)) }
+    ensures added { OnOk result (AreFiles (Some (found_in files.new.items))
+        (with_named (found_in files.old.items) name.now bytes.items)) }
     ensures refused { OnErr result (files.new.items ≡ files.old.items) }
 {
     let name = String::from_str(alloc, name)?;
@@ -118,9 +130,9 @@ fn put_new(
 }
 
 impl MemFolder {
-    /// A folder without files.
+    /// A folder without files, and none of whose calls is to fail. It takes no memory.
     pub fn new(alloc: Global) -> MemFolder
-        ensures { result ≡ record { files = []; tally = unused; last = None } }
+        ensures { result ≡ record { files = []; counts = unused; last = None } }
     {
         MemFolder {
             files: Vec::new(alloc),
@@ -129,18 +141,20 @@ impl MemFolder {
         }
     }
 
-    /// The calls of these numbers, loads and stores together from 0 since the folder was made, are to fail.
+    /// The calls of these numbers are to fail: the list takes the place of an earlier one.
     pub fn fail_at(&mut self, calls: Vec<u64>)
-        ensures { self.new ≡ record self.old { tally = record self.old.tally { failing = calls.items } } }
+        ensures { self.new ≡ record self.old { counts = listing self.old.counts calls.items } }
     {
         self.calls.fail_at(calls);
     }
 
-    /// Puts a file there, or other bytes into the one of that name.
+    /// Makes a file of these bytes, or puts them in the place of those of the file of that name. It
+    /// is no call of the trait: it isn't counted. After an error the folder is as before.
     pub fn add(&mut self, alloc: Global, name: &str, bytes: Vec<u8>) -> Result<(), Memory>
-        ensures added { OnOk result (AreFiles (Some (found_in self.new.files)) (with_named (found_in self.old.files) name.now bytes.items)) }
+        ensures added { OnOk result (AreFiles (Some (found_in self.new.files))
+            (with_named (found_in self.old.files) name.now bytes.items)) }
         ensures refused { OnErr result (self.new ≡ self.old) }
-        ensures tally { self.new.tally ≡ self.old.tally }
+        ensures counts { self.new.counts ≡ self.old.counts }
         ensures last { self.new.last ≡ self.old.last }
     {
         let at = place_of(&self.files, name);
@@ -161,40 +175,111 @@ impl MemFolder {
         }
         None
     }
+
+    // Counts a load, and gives the place of its file.
+    fn find(&mut self, alloc: Global, name: &str) -> Result<usize, FolderError>
+        ensures place { IfOk result (λ at.
+            (at ≡ place_in self.old.files name.now) × (at < length self.old.files)) }
+        ensures counted { Loads self.old name.now result self.new }
+        ensures cause { HasErrand (load_of name.now) self.old.counts.faults self.new.counts.faults
+            self.old.last self.new.last result }
+    {
+        let kept = match String::from_str(alloc, name) {
+            Ok(kept) => kept,
+            Err(_) => {
+                self.calls.pass();
+                return Err(FolderError::Memory);
+            }
+        };
+        let at = place_of(&self.files, name);
+        if !self.calls.next(at >= self.files.len()) {
+            self.last = Some(FolderCall::Load(kept));
+            return Err(FolderError::Failed);
+        }
+        Ok(at)
+    }
+
+    // Loads a file's bytes from a place on, cut behind so many.
+    fn read(
+        &mut self,
+        alloc: Global,
+        name: &str,
+        at: u64,
+        most: u64,
+    ) -> Result<Vec<u8>, FolderError>
+        requires { at + most < 2 ^ 64 }
+        ensures loaded { PartLoaded (Some (found_in self.old.files)) name.now at most result }
+        ensures counted { Loads self.old name.now result self.new }
+        ensures cause { HasErrand (load_of name.now) self.old.counts.faults self.new.counts.faults
+            self.old.last self.new.last result }
+    {
+        let place = match self.find(alloc, name) {
+            Ok(place) => place,
+            Err(FolderError::Failed) => return Err(FolderError::Failed),
+            Err(FolderError::Memory) => return Err(FolderError::Memory),
+        };
+        match self.files[place].part(alloc, at, most) {
+            Ok(bytes) => Ok(bytes),
+            Err(_) => Err(FolderError::Memory),
+        }
+    }
 }
 
 impl Folder for MemFolder {
     ghost files = { λ f. Some (found_in f.files) };
 
-    ghost faults = { λ f. f.tally.faults };
+    ghost faults = { λ f. f.counts.faults };
 
     ghost last_failed = { λ f. f.last };
 
-    fn load(&mut self, alloc: Global, name: &str, max: u64) -> Result<Vec<u8>, FolderError> {
-        let kept = match String::from_str(alloc, name) {
-            Ok(kept) => kept,
-            Err(_) => return Err(FolderError::Memory),
-        };
-        let at = place_of(&self.files, name);
-        let missing = at >= self.files.len();
-        if !self.calls.next(missing) {
-            self.last = Some(FolderCall::Load(kept));
-            return Err(FolderError::Failed);
-        }
-        match self.files[at].front(alloc, max + 1) {
+    fn load(&mut self, alloc: Global, name: &str, max: u64) -> Result<Vec<u8>, FolderError>
+        requires { max < 2 ^ 63 }
+        ensures files { Some (found_in self.new.files) ≡ Some (found_in self.old.files) }
+        ensures loaded { Loaded (Some (found_in self.old.files)) name.now max result }
+        ensures cause { HasErrand (load_of name.now) self.old.counts.faults self.new.counts.faults
+            self.old.last self.new.last result }
+        ensures exact { Loads self.old name.now result self.new }
+    {
+        match self.read(alloc, name, 0, max + 1) {
             Ok(bytes) => Ok(bytes),
-            Err(_) => Err(FolderError::Memory),
+            Err(FolderError::Failed) => Err(FolderError::Failed),
+            Err(FolderError::Memory) => Err(FolderError::Memory),
         }
     }
 
-    fn store(&mut self, alloc: Global, name: &str, bytes: &[u8]) -> Result<(), FolderError> {
-        let kept = match String::from_str(alloc, name) {
-            Ok(kept) => kept,
-            Err(_) => return Err(FolderError::Memory),
-        };
-        let copy = match Vec::from_slice(alloc, bytes) {
-            Ok(copy) => copy,
-            Err(_) => return Err(FolderError::Memory),
+    fn load_part(
+        &mut self,
+        alloc: Global,
+        name: &str,
+        at: u64,
+        max: u64,
+    ) -> Result<Vec<u8>, FolderError>
+        requires { at + max < 2 ^ 63 }
+        ensures files { Some (found_in self.new.files) ≡ Some (found_in self.old.files) }
+        ensures loaded { PartLoaded (Some (found_in self.old.files)) name.now at max result }
+        ensures few { IfOk result (λ part. vec_len part ≤ max) }
+        ensures cause { HasErrand (load_of name.now) self.old.counts.faults self.new.counts.faults
+            self.old.last self.new.last result }
+        ensures exact { Loads self.old name.now result self.new }
+    {
+        match self.read(alloc, name, at, max) {
+            Ok(bytes) => Ok(bytes),
+            Err(FolderError::Failed) => Err(FolderError::Failed),
+            Err(FolderError::Memory) => Err(FolderError::Memory),
+        }
+    }
+
+    fn store(&mut self, alloc: Global, name: &str, bytes: &[u8]) -> Result<(), FolderError>
+        ensures stored { Stored (Some (found_in self.old.files)) (Some (found_in self.new.files))
+            name.now bytes.now result }
+        ensures cause { HasErrand (store_of name.now) self.old.counts.faults self.new.counts.faults
+            self.old.last self.new.last result }
+        ensures exact { Stores self.old name.now bytes.now result self.new }
+    {
+        let (Ok(kept), Ok(copy)) = (String::from_str(alloc, name), Vec::from_slice(alloc, bytes))
+        else {
+            self.calls.pass();
+            return Err(FolderError::Memory);
         };
         if !self.calls.next(false) {
             self.last = Some(FolderCall::Store(kept));

@@ -4,7 +4,7 @@ ghost use Rattle.std.specs.declared.option.Option.{Option};
 ghost use Rattle.std.specs.Io.KnownBytes.{Appends, ReadConsumes};
 ghost use Rattle.host_traits.specs.Told.{Rose};
 ghost use Rattle.host_traits.specs.Streams.{HasCause, SomePrefix};
-ghost use Rattle.host_traits.specs.Mem.{Tally, Feed, Basin, one_more, is_failing, called, failed, unused};
+ghost use Rattle.host_traits.specs.Mem.{Counts, SourceData, SinkData, Reads, Writes, is_listed, listing, called, failed, unused};
 
 use crate::streams::{Failed, Sink, Source};
 use mg_base::Memory;
@@ -20,9 +20,9 @@ pub(crate) struct Calls {
 }
 
 impl Model for Calls {
-    ghost use Rattle.host_traits.specs.Mem.{Tally};
+    ghost use Rattle.host_traits.specs.Mem.{Counts};
 
-    ghost Value = { Tally };
+    ghost Value = { Counts };
 
     ghost view = { λ c. record { calls = c.made; failing = c.failing.items; faults = c.faults } };
 }
@@ -39,14 +39,21 @@ impl Calls {
     }
 
     pub(crate) fn fail_at(&mut self, calls: Vec<u64>)
-        ensures { self.new ≡ record self.old { failing = calls.items } }
+        ensures { self.new ≡ listing self.old calls.items }
     {
         self.failing = calls;
     }
 
+    // Counts one call more, which doesn't fail.
+    pub(crate) fn pass(&mut self)
+        ensures { self.new ≡ called self.old }
+    {
+        self.made = self.made.saturating_add(1);
+    }
+
     // Counts one call more: false where it fails, because it is `refused` or listed.
     pub(crate) fn next(&mut self, refused: bool) -> bool
-        ensures answer { result ≡ not (refused || is_failing self.old) }
+        ensures answer { result ≡ not (refused || is_listed self.old) }
         ensures later { self.old.faults ≤ self.new.faults }
         ensures rose { result ≡ false → Rose self.old.faults self.new.faults }
         ensures counted { self.new ≡ (if result then called self.old else failed self.old) }
@@ -61,7 +68,8 @@ impl Calls {
     }
 }
 
-/// A source over bytes in memory.
+/// A source over bytes in memory, for tests. Reads are numbered from 0 since it was made, those
+/// that failed among them; a read fails exactly where its number is listed, and takes nothing then.
 #[derive(Drop)]
 pub struct MemSource {
     bytes: Vec<u8>,
@@ -72,20 +80,25 @@ pub struct MemSource {
 
 impl Model for MemSource {
     ghost use Rattle.std.specs.Prelude.{◌≤◌, drop, length};
-    ghost use Rattle.host_traits.specs.Mem.{Feed};
+    ghost use Rattle.host_traits.specs.Mem.{SourceData};
 
-    ghost Value = { Feed };
+    ghost Value = { SourceData };
 
-    ghost view = { λ s. record { left = drop s.at s.bytes.items; piece = s.piece; tally = s.calls } };
+    ghost view = { λ s. record {
+      left = drop s.at s.bytes.items;
+      piece = s.piece;
+      counts = s.calls;
+    } };
 
     ghost invariant = { λ s. (s.at ≤ length s.bytes.items) × (1 ≤ s.piece) };
 }
 
 impl MemSource {
-    /// A source of these bytes, at most `piece` of them in one read.
+    /// A source of these bytes. A read gives at most `piece` of them, which is at least 1: exactly
+    /// the least of `piece`, the space and what is left. No read is to fail. It takes no memory.
     pub fn new(alloc: Global, bytes: Vec<u8>, piece: usize) -> MemSource
         requires { 1 ≤ piece }
-        ensures { result ≡ record { left = bytes.items; piece = piece; tally = unused } }
+        ensures { result ≡ record { left = bytes.items; piece = piece; counts = unused } }
     {
         MemSource {
             bytes,
@@ -95,9 +108,10 @@ impl MemSource {
         }
     }
 
-    /// The reads of these numbers, from 0 since the source was made, are to fail.
+    /// The reads of these numbers are to fail, and no others: the list takes the place of an
+    /// earlier one.
     pub fn fail_at(&mut self, calls: Vec<u64>)
-        ensures { self.new ≡ record self.old { tally = record self.old.tally { failing = calls.items } } }
+        ensures { self.new ≡ record self.old { counts = listing self.old.counts calls.items } }
     {
         self.calls.fail_at(calls);
     }
@@ -106,9 +120,14 @@ impl MemSource {
 impl Source for MemSource {
     ghost left = { λ s. Some s.left };
 
-    ghost faults = { λ s. s.tally.faults };
+    ghost faults = { λ s. s.counts.faults };
 
-    fn read(&mut self, out: &mut [u8]) -> Result<usize, Failed> {
+    fn read(&mut self, out: &mut [u8]) -> Result<usize, Failed>
+        ensures most { IfOk result (λ n. n ≤ length out.old) }
+        ensures given { ReadConsumes (Some self.old.left) (Some self.new.left) result out.new }
+        ensures cause { HasCause self.old.counts.faults self.new.counts.faults result }
+        ensures exact { Reads self.old out.old result self.new out.new }
+    {
         if !self.calls.next(false) {
             return Err(Failed);
         }
@@ -119,7 +138,9 @@ impl Source for MemSource {
     }
 }
 
-/// A sink in memory, with room that is taken once.
+/// A sink in memory, with room that is taken once, for tests. Writes are numbered from 0 since it
+/// was made, those that failed among them; a write fails exactly where its number is listed or its
+/// bytes pass the room, and writes nothing then.
 #[derive(Drop)]
 pub struct MemSink {
     bytes: Vec<u8>,
@@ -129,19 +150,19 @@ pub struct MemSink {
 
 impl Model for MemSink {
     ghost use Rattle.std.specs.Prelude.{◌≤◌, length, vec_capacity};
-    ghost use Rattle.host_traits.specs.Mem.{Basin};
+    ghost use Rattle.host_traits.specs.Mem.{SinkData};
 
-    ghost Value = { Basin };
+    ghost Value = { SinkData };
 
-    ghost view = { λ s. record { bytes = s.bytes.items; room = s.room; tally = s.calls } };
+    ghost view = { λ s. record { bytes = s.bytes.items; room = s.room; counts = s.calls } };
 
     ghost invariant = { λ s. (length s.bytes.items ≤ s.room) × (s.room ≤ vec_capacity s.bytes) };
 }
 
 impl MemSink {
-    /// An empty sink with room for so many bytes. A piece that passes the room fails.
+    /// An empty sink with room for so many bytes, which it takes. No write is listed.
     pub fn new(alloc: Global, room: usize) -> Result<MemSink, Memory>
-        ensures { IfOk result (λ sink. sink ≡ record { bytes = []; room = room; tally = unused }) }
+        ensures { IfOk result (λ sink. sink ≡ record { bytes = []; room = room; counts = unused }) }
     {
         let bytes = Vec::with_capacity(alloc, room)?;
         Ok(MemSink {
@@ -151,14 +172,14 @@ impl MemSink {
         })
     }
 
-    /// The writes of these numbers, from 0 since the sink was made, are to fail.
+    /// The writes of these numbers are to fail: the list takes the place of an earlier one.
     pub fn fail_at(&mut self, calls: Vec<u64>)
-        ensures { self.new ≡ record self.old { tally = record self.old.tally { failing = calls.items } } }
+        ensures { self.new ≡ record self.old { counts = listing self.old.counts calls.items } }
     {
         self.calls.fail_at(calls);
     }
 
-    /// The bytes that were written.
+    /// The bytes that were written, in order.
     pub fn bytes(&self) -> &[u8]
         ensures { result.now ≡ self.now.bytes }
     {
@@ -169,9 +190,15 @@ impl MemSink {
 impl Sink for MemSink {
     ghost holds = { λ s. Some s.bytes };
 
-    ghost faults = { λ s. s.tally.faults };
+    ghost faults = { λ s. s.counts.faults };
 
-    fn write_all(&mut self, bytes: &[u8]) -> Result<(), Failed> {
+    fn write_all(&mut self, bytes: &[u8]) -> Result<(), Failed>
+        ensures ok { OnOk result (Appends (Some self.old.bytes) (Some self.new.bytes) bytes.now) }
+        ensures err { OnErr result
+            (SomePrefix (Some self.old.bytes) (Some self.new.bytes) bytes.now) }
+        ensures cause { HasCause self.old.counts.faults self.new.counts.faults result }
+        ensures exact { Writes self.old bytes.now result self.new }
+    {
         let passes = bytes.len() > self.room - self.bytes.len();
         if !self.calls.next(passes) {
             return Err(Failed);
