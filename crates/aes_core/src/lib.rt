@@ -65,35 +65,3 @@ impl Aes256 {
         *second = y.to_array();
     }
 }
-
-#[cfg(test)]
-mod tests {
-    use super::*;
-    use std::test::Fail;
-
-    // The example of FIPS 197, C.3.
-    #[test]
-    fn example_of_the_standard(rt: HostRuntime) -> Result<(), Fail> {
-        let mut key = [0u8; 32];
-        for i in 0..32u8 {
-            key[i as usize] = i;
-        }
-        let mut block = [0u8; 16];
-        for i in 0..16u8 {
-            block[i as usize] = 17 * i;
-        }
-        let mut second = block;
-        let mut third = block;
-        let expected: [u8; 16] = [
-            0x8e, 0xa2, 0xb7, 0xca, 0x51, 0x67, 0x45, 0xbf, 0xea, 0xfc, 0x49, 0x90, 0x4b, 0x49,
-            0x60, 0x89,
-        ];
-        let aes = Aes256::new(&key);
-        aes.encrypt(&mut block);
-        assert_eq!(rt; block, expected);
-        aes.encrypt_two(&mut second, &mut third);
-        assert_eq!(rt; second, expected);
-        assert_eq!(rt; third, expected);
-        Ok(())
-    }
-}

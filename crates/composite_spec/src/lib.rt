@@ -4,8 +4,6 @@
 mod kinds;
 mod reading;
 mod stated;
-#[cfg(test)]
-mod tests;
 mod wire;
 mod writing;
 

@@ -12,6 +12,3 @@ pub use crate::faults::{BootCause, BootFault};
 pub use crate::laws::plans_are_served;
 pub use crate::lines::{Opened, open_lines};
 pub use crate::words::write_boot_end;
-
-#[cfg(test)]
-mod tests;

@@ -10,8 +10,6 @@ pub mod measuring;
 pub mod parts;
 pub mod pieces;
 pub mod status;
-#[cfg(test)]
-mod tests;
 pub mod top;
 pub mod words;
 

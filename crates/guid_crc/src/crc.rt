@@ -23,13 +23,3 @@ pub fn crc32(bytes: &[u8]) -> u32
     }
     register ^ u32::MAX
 }
-
-#[cfg(test)]
-mod tests {
-    use super::*;
-
-    #[test]
-    fn check_value(rt: HostRuntime) {
-        assert_eq!(rt; crc32(b"123456789"), 0xcbf4_3926);
-    }
-}

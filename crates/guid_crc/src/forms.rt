@@ -42,39 +42,3 @@ pub fn read_guid(text: &str) -> Option<Guid>
     }
     Some(Guid(id.into_bytes()))
 }
-
-#[cfg(test)]
-mod tests {
-    use super::*;
-
-    const LINUX: [u8; 16] = [
-        0x0f, 0xc6, 0x3d, 0xaf, 0x84, 0x83, 0x47, 0x72, 0x8e, 0x79, 0x3d, 0x69, 0xd8, 0x47, 0x7d,
-        0xe4,
-    ];
-
-    const LINUX_ON_DISK: [u8; 16] = [
-        0xaf, 0x3d, 0xc6, 0x0f, 0x83, 0x84, 0x72, 0x47, 0x8e, 0x79, 0x3d, 0x69, 0xd8, 0x47, 0x7d,
-        0xe4,
-    ];
-
-    #[test]
-    fn both_forms(rt: HostRuntime) {
-        let guid = Guid(LINUX);
-        assert_eq!(rt; to_disk(&guid), LINUX_ON_DISK);
-        assert_eq!(rt; from_disk(&LINUX_ON_DISK), guid);
-        assert_eq!(rt;
-            read_guid("0fc63daf-8483-4772-8e79-3d69d8477de4"),
-            Some(guid)
-        );
-        for other in [
-            "0FC63DAF-8483-4772-8E79-3D69D8477DE4",
-            "0fc63daf84834772-8e79-3d69d8477de4",
-            "0fc63daf848347728e793d69d8477de4",
-            "{0fc63daf-8483-4772-8e79-3d69d8477de4}",
-            "0fc63daf-8483-4772-8e79-3d69d8477de",
-            "",
-        ] {
-            assert_eq!(rt; read_guid(other), None, "{other}");
-        }
-    }
-}

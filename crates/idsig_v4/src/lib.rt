@@ -5,8 +5,6 @@
 pub mod head;
 pub mod laws;
 mod reading;
-#[cfg(test)]
-mod tests;
 mod writing;
 
 pub use crate::head::{Head, IdsigFault};

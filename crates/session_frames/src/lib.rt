@@ -5,8 +5,6 @@ mod head;
 mod laws;
 mod reply;
 mod splitter;
-#[cfg(test)]
-mod tests;
 
 pub use head::{is_head, payload_len};
 pub use laws::one_way;

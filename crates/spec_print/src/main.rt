@@ -1,6 +1,6 @@
 //! Reads composite files, one a line of standard input in hexadecimal, and prints what each describes and the file
 //! that is written for it: the disk's length, a line for each component with its offset, `ro` or `rw` and the bytes of
-//! its path, and the written file in hexadecimal.
+//! its path, and the written file in hexadecimal. Of a file that is in no grammar it prints the first broken rule.
 #![tactic(auto)]
 
 ghost use Rattle.std.specs.Prelude.{◌≡◌, IfOk};
@@ -56,8 +56,10 @@ fn main(rt: HostRuntime) -> Result<()> {
     let lines = BufReader::new(rt.alloc(), rt.reader())?.lines(rt.alloc());
     for line in lines {
         let bytes = hex::decode(rt.alloc(), line?.as_str())?;
-        let spec = spec_of(rt.alloc(), bytes.as_slice())?;
-        print(&rt, &spec)?;
+        match spec_of(rt.alloc(), bytes.as_slice()) {
+            Ok(spec) => print(&rt, &spec)?,
+            Err(fault) => println!(rt; "{fault}")?,
+        }
     }
     Ok(())
 }

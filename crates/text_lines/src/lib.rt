@@ -14,6 +14,3 @@ pub use crate::kinds::{LineFault, Name, PlanFault, PlanKind};
 pub use crate::lines::{LineReader, read_lines};
 pub use crate::values::{folder_name_of, hex32, hex64, name_of, number_in, page_salt, part_of};
 pub use crate::writing::{put_hex, put_number, put_salt};
-
-#[cfg(test)]
-mod tests;

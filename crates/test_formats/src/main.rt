@@ -1,0 +1,48 @@
+//! Cases for the readers of binary formats and for the ciphers, one a line of standard input, and what each call answers,
+//! one line each on standard output. A line that begins with `#` says where the values below it come from, and is printed as it is.
+#![tactic(auto)]
+
+mod ciphers;
+mod readers;
+mod words;
+
+use crate::ciphers::{aes_line, changed_line, hkdf_line, hmac_line, seal_line};
+use crate::readers::{crc_line, descriptor_line, frame_line, guid_line, idsig_line, idsig_of_line};
+use anyhow::{Result, bail};
+use std::alloc::Global;
+use std::io::{BufRead, BufReader};
+
+// What the call that these words name answers.
+fn outcome(alloc: Global, words: &[&str]) -> Result<String> {
+    match words {
+        ["crc", bytes] => crc_line(alloc, *bytes),
+        ["guid", text] => guid_line(alloc, *text),
+        ["descriptor", bytes] => descriptor_line(alloc, *bytes),
+        ["idsig", bytes, total, blocks] => idsig_line(alloc, *bytes, *total, *blocks),
+        ["idsig_of", salt, root, signing, tree] => {
+            idsig_of_line(alloc, *salt, *root, *signing, *tree)
+        }
+        ["frame", bytes] => frame_line(alloc, *bytes),
+        ["aes", key, block] => aes_line(alloc, *key, *block),
+        ["seal", key, nonce, head, text] => seal_line(alloc, *key, *nonce, *head, *text),
+        ["changed", key, nonce, head, text] => changed_line(alloc, *key, *nonce, *head, *text),
+        ["hmac", key, text] => hmac_line(alloc, *key, *text),
+        ["hkdf", salt, key, info] => hkdf_line(alloc, *salt, *key, *info),
+        _ => bail!("no such case"),
+    }
+}
+
+fn main(rt: HostRuntime) -> Result<()> {
+    let lines = BufReader::new(rt.alloc(), rt.reader())?.lines(rt.alloc());
+    for line in lines {
+        let line = line?;
+        if line.as_str().starts_with("#") {
+            println!(rt; "{line}")?;
+            continue;
+        }
+        let words: Vec<&str> = line.as_str().split_whitespace().collect(rt.alloc())?;
+        let outcome = outcome(rt.alloc(), words.as_slice())?;
+        println!(rt; "{outcome}")?;
+    }
+    Ok(())
+}

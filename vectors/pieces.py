@@ -1,0 +1,55 @@
+"""Bytes as pieces of JSON: text, hexadecimal, counted bytes, and repetitions."""
+import hashlib
+import json
+
+LONG = 3000
+
+
+def length_of(data, at, period):
+    """How many bytes from `at` on repeat with this period."""
+    end = at + period
+    while end < len(data) and data[end] == data[end - period]:
+        end += 1
+    return end - at
+
+
+def counted(data, at):
+    """How many bytes from `at` on go on as j mod 251 does."""
+    end = at + 1
+    while end < len(data) and data[at] < 251 and data[end] == (data[end - 1] + 1) % 251:
+        end += 1
+    return end - at
+
+
+def runs(data):
+    """The bytes cut where a rule of a piece holds for long: pieces, in order."""
+    at, plain = 0, 0
+    while at < len(data):
+        count, same, pages = counted(data, at), length_of(data, at, 1), length_of(data, at, 32) // 32
+        if count >= 24:
+            piece, size = {"counted": [data[at], data[at] + count]}, count
+        elif same >= 24:
+            piece, size = {"times": [same, {"hex": data[at:at + 1].hex()}]}, same
+        elif pages >= 3:
+            piece, size = {"times": [pages, {"hex": data[at:at + 32].hex()}]}, 32 * pages
+        else:
+            at += 1
+            continue
+        if plain < at:
+            yield {"hex": data[plain:at].hex()}
+        yield piece
+        at = plain = at + size
+    if plain < at:
+        yield {"hex": data[plain:at].hex()}
+
+
+def wanted(data, long=LONG):
+    """Bytes as JSON; where that is long, their number and their SHA-256."""
+    if isinstance(data, str):
+        return data
+    if all(byte == 10 or 32 <= byte < 127 for byte in data) and len(data) < 600:
+        return data.decode()
+    out = list(runs(data))
+    if long is not None and len(json.dumps(out)) > long:
+        return {"length": len(data), "sha256": hashlib.sha256(data).hexdigest()}
+    return out[0] if len(out) == 1 else out
