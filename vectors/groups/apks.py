@@ -55,7 +55,8 @@ def idsigs():
     fixed = f"apk 0 apk idsig fixed 301 - {ROOT}\n"
     yield refused("span too short", "a block more than the partition has", fixed, [DISK.boot()], "apk spanshort 301 2400")
     other = bytes([DEVICE.root[0] ^ 0x10]).hex() + ROOT[2:]
-    yield refused("another root", "the idsig's root isn't the plan's", f"apk 0 apk idsig fixed 300 - {other}\n", [DISK.boot()], f"apk rootmismatch {other} {ROOT}")
+    yield refused("another root", "the idsig's root isn't the plan's", f"apk 0 apk idsig fixed 300 - {other}\n", [DISK.boot()],
+                  f"apk rootmismatch {other} {ROOT}")
     yield refused("another salt", "the idsig's salt isn't the plan's", f"apk 0 apk idsig fixed 300 ab {ROOT}\n", [DISK.boot()], "apk saltmismatch")
     for name in ("nope", "ap", "apk2", "APK"):
         yield refused(f"no part {name}", "no used entry has the name", f"apk 0 {name} idsig first\n", [DISK.boot(0)], f"nopart {name}")

@@ -63,9 +63,11 @@ def faults():
     yield refused("no file", "a file that isn't there", "measure other -", 3, "end 3 file other\n")
     yield refused("instance", "not served yet", "instance list out", 12, "end 12 unbuilt command 0\n")
     for name, why, text, status, words in (
-            ("name twice", "the second line", "part a ro file\npart a rw file\n", 2, "list 3 twice"), ("mode", "neither ro nor rw", "part a wo file\n", 2, "list 2 word"),
+            ("name twice", "the second line", "part a ro file\npart a rw file\n", 2, "list 3 twice"),
+            ("mode", "neither ro nor rw", "part a wo file\n", 2, "list 2 word"),
             ("empty part", "a part without bytes", "part a rw file\npart b ro zero\n", 11, "unfit empty"),
-            ("uneven part", "a writable part of 5,000 bytes", "part a rw file\n", 11, "unfit uneven"), ("no parts", "a list without lines", "", 11, "unfit noparts"),
+            ("uneven part", "a writable part of 5,000 bytes", "part a rw file\n", 11, "unfit uneven"),
+            ("no parts", "a list without lines", "", 11, "unfit noparts"),
             ("too many", "129 parts", "".join(f"part a{i} ro file\n" for i in range(129)), 11, "unfit toomany")):
         yield refused(name, why, "composite list out", status, f"end {status} {words}\n", list=("parts 1\n" + text).encode())
 

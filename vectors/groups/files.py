@@ -54,16 +54,20 @@ def cases():
     yield refused("a byte set", "a byte past the salt", one, one, "descriptor notzero 112")
     yield refused("two bytes set", "the first of them", two, two, "descriptor notzero 50")
     yield refused("digest first", "the digest is compared before the descriptor is read", FILE, one, f"digestmismatch {digest(FILE)} {digest(one)}")
-    yield refused("no content of the empty file", "the empty file's descriptor in place of another", FILE, EMPTY, f"digestmismatch {digest(FILE)} {digest(EMPTY)}")
+    yield refused("no content of the empty file", "the empty file's descriptor in place of another", FILE, EMPTY,
+                  f"digestmismatch {digest(FILE)} {digest(EMPTY)}")
     blob = Device(counted(8192))
     both = blob.plan() + f"file a 8 {digest(EMPTY)}\n".encode()
     yield replayed("one call", "a blob's line makes no call, and a file's one: the read goes on with the next record", both,
-                   [told(EMPTY)] + [told(page) for _, _, page in blob.pages(0, 4)], request(0, 0, 4) + request(1, 0, 4), reply(0, blob.content[:4]) + reply(2))
+                   [told(EMPTY)] + [told(page) for _, _, page in blob.pages(0, 4)], request(0, 0, 4) + request(1, 0, 4),
+                   reply(0, blob.content[:4]) + reply(2))
     longer = blob.plan() + f"file a 8 {digest(LONG)}\n".encode()
-    yield replayed("second line", "the line that is named is the file's", longer, [told(LONG)], status=8, log=f"end 8 boot 3 file toolong {2**32 + 1}\n")
+    yield replayed("second line", "the line that is named is the file's", longer, [told(LONG)], status=8,
+                   log=f"end 8 boot 3 file toolong {2**32 + 1}\n")
     for name, content, data in (("file", counted(8192), FILE), ("empty", b"", EMPTY), ("block", counted(4096), BLOCK), ("byte", b"Z", BYTE)):
         files = {"plan": plan(data), "store": b"store 1\nverity 2 c.bin -\n", "entropy": b"", "c.bin": content}
-        yield case(f"{name} of a store list", "the host makes the descriptor", files, ran("serve plan store entropy tape", stored={"tape": tape(told(data))}))
+        yield case(f"{name} of a store list", "the host makes the descriptor", files,
+                   ran("serve plan store entropy tape", stored={"tape": tape(told(data))}))
     files = {"plan": plan(FILE), "store": b"store 1\nverity 3 c.bin -\n", "entropy": b"", "c.bin": counted(8192)}
     yield case("another number", "the host has no file of the plan's number", files,
                ran("serve plan store entropy tape", 8, b"", "end 8 boot 2 file failed 1\n"))

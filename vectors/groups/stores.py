@@ -48,12 +48,14 @@ def cases():
                ran(SERVE, stored={"tape": tape(), "d.out": held, "p.out": held, "c.out": disk, "e.out": b""}))
     odd = dict(files, odd=counted(513), **{"c.spec": ONE, "alias": ALIAS})
     for at, (text, line, kind) in enumerate(LISTS):
-        yield case(f"{kind} {at}", f"line {line} is refused as {kind}", dict(odd, store=text.encode()), ran(SERVE, 4, b"", f"end 4 store {line} {kind}\n"))
+        yield case(f"{kind} {at}", f"line {line} is refused as {kind}", dict(odd, store=text.encode()),
+                   ran(SERVE, 4, b"", f"end 4 store {line} {kind}\n"))
     for text, name in MISSING:
         yield case(f"no {name}", "a file that isn't there", dict(odd, store=text.encode()), ran(SERVE, 3, b"", f"end 3 file {name}\n"))
     for words, name in (("serve none store entropy tape", "none"), ("serve plan none entropy tape", "none"),
                         ("serve plan store none tape", "none"), ("serve plan store entropy none/tape", "none/tape")):
         yield case(words, "a file that can't be loaded or stored", dict(files, store=b"store 1\n"), ran(words, 3, b"", f"end 3 file {name}\n"))
-    yield case("bad frame", "a session that doesn't come to the end of its input stores nothing", dict(files, store=b"store 1\nempty 1\nkeep file 1 e.out\n"),
+    yield case("bad frame", "a session that doesn't come to the end of its input stores nothing",
+               dict(files, store=b"store 1\nempty 1\nkeep file 1 e.out\n"),
                ran(SERVE, 7, b"", "end 7 frame 0\n", b"\x10\0\0"))
     yield case("empty list", "no line", dict(files, store=b"store 1\n"), ran(SERVE, stored={"tape": tape()}))
