@@ -140,7 +140,7 @@ fn body_len(reply: &FuseReply, served: &Served) -> u32
     }
 }
 
-/// How many bytes a reply has.
+/// How many bytes a reply has, its header of 16 among them: at most 131,088.
 pub fn reply_len(reply: &FuseReply, served: &Served) -> u32
     ensures value { result ≡ length (sent reply.now served.now) }
     ensures most { result ≤ 131088 }
@@ -202,7 +202,8 @@ fn send<K: Sink>(first: &[u8], second: &[u8], sink: &mut K) -> Result<(), Failed
     sink.write_all(second)
 }
 
-/// Writes a reply. After `Failed` a front part of it was written. It takes no memory.
+/// Writes a reply (`fuse_out_header` and its body) by one write, or two where bytes are served or listed. After `Failed` a
+/// prefix of it was written. It takes no memory.
 pub fn encode_reply<K: Sink>(reply: &FuseReply, served: &Served, sink: &mut K) -> Result<(), Failed>
     ensures writes { Writes (K.holds sink.old) (K.holds sink.new) (sent reply.now served.now) result }
     ensures never_silent { answered reply.now served.now ≡ Some (sent reply.now served.now) }
