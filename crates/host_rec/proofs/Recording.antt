@@ -1,5 +1,5 @@
 -- What a recorder adds.
-use Rattle.std.proofs.Common.{◌≡◌, ℕ, ◌+◌, ◌-◌, ◌^◌, ◌≤◌, min, List, [], ◌∷◌, ◌++◌, length, refl, ap, sym, ◌∙◌, subst, arith, inl, append_assoc, append-nil, Option, Some, None}
+use Rattle.std.proofs.Common.{◌≡◌, ℕ, ◌+◌, List, [], ◌∷◌, ◌++◌, length, refl, ap, sym, ◌∙◌, subst, arith, inr, append_assoc, append-nil, Option, Some, None}
 use Rattle.std.specs.Prelude.{Result, Ok, Err}
 use Rattle.host_traits.specs.declared.calls.Call.{Call}
 use Rattle.host_traits.specs.declared.calls.Said.{Said}
@@ -9,7 +9,7 @@ use Rattle.host_traits.specs.declared.calls.TapeItem.TheVariants.{Failed as Item
 use Rattle.host_traits.specs.declared.host.HostError.{HostError}
 use Rattle.host_traits.specs.declared.host.HostError.TheVariants.{Failed, Memory}
 use Rattle.host_traits.specs.Told.{Told, Exchanges, Asked, Answered, Refused, Unheard, Talked, made_of, exchange_of, one_failure, failed_by, heard_size}
-use Rattle.host_traits.proofs.Talking.{and_more-nil, talked_not, unheard}
+use Rattle.host_traits.proofs.Talking.{and_more-nil, unheard}
 use Rattle.host_rec.specs.Recorded.{Kept, Keeps, Passed, and, item_of, came_by, calls_in, exchange, exchanges, heard_by, failure, failures, last_failed_in, told_with}
 
 pub exchanges-push : (cs : List Call) (is : List TapeItem) (call : Call) (item : TapeItem) → length cs ≡ length is → exchanges (cs ++ call ∷ []) (is ++ item ∷ []) ≡ exchanges cs is ++ exchange call item
@@ -92,13 +92,11 @@ pub not_recorded : (a : Told) (k : Kept) → Unheard (told_with a k) (told_with 
 not_recorded a k = unheard (told_with a k) refl
 
 -- one call of the host behind
-pub passed_on : {T : Type 0} (call : Call) (given : List ℕ) (said : T → Said) (r : Result T HostError) (a b : Told) → Asked call given said r a b → Passed call given said r a b
-passed_on call given said (Ok x) a b d = d
-passed_on call given said (Err Failed) a b d = d
-passed_on call given said (Err Memory) a b d = d.talked
-
-pub not_passed : (a : Told) → Talked a a []
-not_passed a = talked_not a
+pub passed_on : {H T : Type 0} (tell : H → Told) (call : Call) (given : List ℕ) (said : T → Said) (r : Result T HostError) (a b : H)
+    → Asked call given said r (tell a) (tell b) → Passed tell call given said r a b
+passed_on tell call given said (Ok x) a b d = d
+passed_on tell call given said (Err Failed) a b d = d
+passed_on tell call given said (Err Memory) a b d = inr d
 
 heard_size-append : (a b : Exchanges) → heard_size (a ++ b) ≡ heard_size a + heard_size b
 heard_size-append [] b = omega arith

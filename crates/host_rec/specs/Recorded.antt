@@ -1,5 +1,5 @@
 -- What a recorder keeps of each call, and what it tells.
-use Rattle.std.specs.Prelude.{◌≡◌, true, ℕ, ◌+◌, ◌-◌, ◌^◌, min, List, [], ◌∷◌, ◌++◌, Option, Some, None, Result, Ok, Err}
+use Rattle.std.specs.Prelude.{◌≡◌, true, ℕ, ◌+◌, ◌-◌, ◌^◌, min, List, [], ◌∷◌, ◌++◌, ◌⊎◌, Option, Some, None, Result, Ok, Err}
 use Rattle.host_traits.specs.declared.calls.Call.{Call}
 use Rattle.host_traits.specs.declared.calls.Said.{Said}
 use Rattle.host_traits.specs.declared.calls.Said.TheVariants.{Number as SaidNumber, Bytes as SaidBytes, Done as SaidDone}
@@ -7,7 +7,7 @@ use Rattle.host_traits.specs.declared.calls.TapeItem.{TapeItem}
 use Rattle.host_traits.specs.declared.calls.TapeItem.TheVariants.{Failed as ItemFailed, Number, Bytes, Done}
 use Rattle.host_traits.specs.declared.host.HostError.{HostError}
 use Rattle.host_traits.specs.declared.host.HostError.TheVariants.{Failed, Memory}
-use Rattle.host_traits.specs.Told.{Told, Talked, Answered, Refused, Calls, Exchanges, exchange_of, one_failure, failed_by}
+use Rattle.host_traits.specs.Told.{Told, Answered, Refused, Unheard, Calls, Exchanges, exchange_of, one_failure, failed_by}
 
 -- the calls that were passed on and didn't end for want of memory, and beside each the record that answers it
 pub record Kept : Type 0 where
@@ -93,9 +93,13 @@ Keeps call said (Ok x) old new = new ≡ and old call (item_of (said x))
 Keeps call said (Err Failed) old new = new ≡ and old call ItemFailed
 Keeps call said (Err Memory) old new = new ≡ old
 
--- One call of a recorder is one call of the host behind it, with the same outcome; where that is want of memory, nothing is told of
--- it there, or it was not passed on.
-abbrev pub Passed : {T : Type 0} → Call → List ℕ → (T → Said) → Result T HostError → Told → Told → Type 0
-Passed call given said (Ok x) old new = Answered call given (said x) old new
-Passed call given said (Err Failed) old new = Refused call given old new
-Passed call given said (Err Memory) old new = Talked old new []
+-- what a recorder tells, by what the host behind it tells
+abbrev pub recorder_told : {H : Type 0} → (H → Told) → Recorded H → Told
+recorder_told tell r = told_with (tell r.host) r.kept
+
+-- One call of a recorder is one call of the host behind it, with the same outcome. Where that is out of memory, the host behind
+-- wasn't asked and is as it was, or it was asked and ran out of memory itself.
+abbrev pub Passed : {H T : Type 0} → (H → Told) → Call → List ℕ → (T → Said) → Result T HostError → H → H → Type 0
+Passed tell call given said (Ok x) old new = Answered call given (said x) (tell old) (tell new)
+Passed tell call given said (Err Failed) old new = Refused call given (tell old) (tell new)
+Passed tell call given said (Err Memory) old new = (new ≡ old) ⊎ Unheard (tell old) (tell new)

@@ -4,7 +4,7 @@ ghost use Rattle.host_traits.specs.declared.calls.Call.TheVariants.{BlockSize, B
 ghost use Rattle.host_traits.specs.declared.calls.Said.TheVariants.{Number, Bytes, Done};
 ghost use Rattle.host_traits.specs.Told.{Asked, Fills, Told, IsHeardSize};
 ghost use Rattle.host_tape.specs.Tape.{tape_bytes, IsTape};
-ghost use Rattle.host_rec.specs.Recorded.{Keeps, Passed, failures, nothing, told_with};
+ghost use Rattle.host_rec.specs.Recorded.{Keeps, Passed, failures, nothing, recorder_told, told_with};
 
 use crate::kept::Records;
 use host_traits::{Call, Host, HostError, Raw};
@@ -78,8 +78,10 @@ impl<H: Host> Host for Recorder<H> {
     ghost told = { λ r. told_with (H.told r.host) r.kept };
 
     fn block_size(&mut self, disk: u32) -> Result<u64, HostError>
-        ensures asked { Asked (BlockSize disk) [] (λ n. Number n) result (told_with (H.told self.old.host) self.old.kept) (told_with (H.told self.new.host) self.new.kept) }
-        ensures passed { Passed (BlockSize disk) [] (λ n. Number n) result (H.told self.old.host) (H.told self.new.host) }
+        ensures asked { Asked (BlockSize disk) [] (λ n. Number n)
+            result (recorder_told H.told self.old) (recorder_told H.told self.new) }
+        ensures passed { Passed H.told (BlockSize disk) [] (λ n. Number n)
+            result self.old.host self.new.host }
         ensures kept { Keeps (BlockSize disk) (λ n. Number n) result self.old.kept self.new.kept }
     {
         self.records.reserve(9)?;
@@ -91,9 +93,14 @@ impl<H: Host> Host for Recorder<H> {
     fn block_write(&mut self, disk: u32, sector: u64, bytes: &[u8]) -> Result<(), HostError>
         requires whole { length bytes.now % 512 ≡ 0 }
         requires most { length bytes.now ≤ 69632 }
-        ensures asked { Asked (BlockWrite disk sector (length bytes.now / 512)) bytes.now (λ _. Done) result (told_with (H.told self.old.host) self.old.kept) (told_with (H.told self.new.host) self.new.kept) }
-        ensures passed { Passed (BlockWrite disk sector (length bytes.now / 512)) bytes.now (λ _. Done) result (H.told self.old.host) (H.told self.new.host) }
-        ensures kept { Keeps (BlockWrite disk sector (length bytes.now / 512)) (λ _. Done) result self.old.kept self.new.kept }
+        ensures asked { Asked (BlockWrite disk sector (length bytes.now / 512)) bytes.now
+            (λ _. Done)
+            result (recorder_told H.told self.old) (recorder_told H.told self.new) }
+        ensures passed { Passed H.told (BlockWrite disk sector (length bytes.now / 512)) bytes.now
+            (λ _. Done)
+            result self.old.host self.new.host }
+        ensures kept { Keeps (BlockWrite disk sector (length bytes.now / 512)) (λ _. Done) result
+            self.old.kept self.new.kept }
     {
         let count = (bytes.len() / 512) as u32;
         self.records.reserve(1)?;
@@ -110,8 +117,10 @@ impl<H: Host> Host for Recorder<H> {
     }
 
     fn block_sync(&mut self, disk: u32) -> Result<(), HostError>
-        ensures asked { Asked (BlockSync disk) [] (λ _. Done) result (told_with (H.told self.old.host) self.old.kept) (told_with (H.told self.new.host) self.new.kept) }
-        ensures passed { Passed (BlockSync disk) [] (λ _. Done) result (H.told self.old.host) (H.told self.new.host) }
+        ensures asked { Asked (BlockSync disk) [] (λ _. Done)
+            result (recorder_told H.told self.old) (recorder_told H.told self.new) }
+        ensures passed { Passed H.told (BlockSync disk) [] (λ _. Done)
+            result self.old.host self.new.host }
         ensures kept { Keeps (BlockSync disk) (λ _. Done) result self.old.kept self.new.kept }
     {
         self.records.reserve(1)?;
@@ -123,9 +132,12 @@ impl<H: Host> Host for Recorder<H> {
     fn file_write(&mut self, file: u32, at: u64, bytes: &[u8]) -> Result<(), HostError>
         requires most { length bytes.now ≤ 4096 }
         requires end { at + length bytes.now ≤ 2 ^ 32 }
-        ensures asked { Asked (FileWrite file at (length bytes.now)) bytes.now (λ _. Done) result (told_with (H.told self.old.host) self.old.kept) (told_with (H.told self.new.host) self.new.kept) }
-        ensures passed { Passed (FileWrite file at (length bytes.now)) bytes.now (λ _. Done) result (H.told self.old.host) (H.told self.new.host) }
-        ensures kept { Keeps (FileWrite file at (length bytes.now)) (λ _. Done) result self.old.kept self.new.kept }
+        ensures asked { Asked (FileWrite file at (length bytes.now)) bytes.now (λ _. Done)
+            result (recorder_told H.told self.old) (recorder_told H.told self.new) }
+        ensures passed { Passed H.told (FileWrite file at (length bytes.now)) bytes.now (λ _. Done)
+            result self.old.host self.new.host }
+        ensures kept { Keeps (FileWrite file at (length bytes.now)) (λ _. Done) result self.old.kept
+            self.new.kept }
     {
         let count = bytes.len() as u32;
         self.records.reserve(1)?;
@@ -143,9 +155,12 @@ impl<H: Host> Host for Recorder<H> {
         bytes: &[u8],
     ) -> Result<(), HostError>
         requires { length bytes.now ≡ 4096 }
-        ensures asked { Asked (TreeWrite file level index) bytes.now (λ _. Done) result (told_with (H.told self.old.host) self.old.kept) (told_with (H.told self.new.host) self.new.kept) }
-        ensures passed { Passed (TreeWrite file level index) bytes.now (λ _. Done) result (H.told self.old.host) (H.told self.new.host) }
-        ensures kept { Keeps (TreeWrite file level index) (λ _. Done) result self.old.kept self.new.kept }
+        ensures asked { Asked (TreeWrite file level index) bytes.now (λ _. Done)
+            result (recorder_told H.told self.old) (recorder_told H.told self.new) }
+        ensures passed { Passed H.told (TreeWrite file level index) bytes.now (λ _. Done)
+            result self.old.host self.new.host }
+        ensures kept { Keeps (TreeWrite file level index) (λ _. Done) result self.old.kept
+            self.new.kept }
     {
         self.records.reserve(1)?;
         let answer = self.host.file_tree_write(file, level, index, bytes);
@@ -156,8 +171,10 @@ impl<H: Host> Host for Recorder<H> {
 
     fn file_resize(&mut self, file: u32, size: u64) -> Result<(), HostError>
         requires { size ≤ 2 ^ 32 }
-        ensures asked { Asked (Resize file size) [] (λ _. Done) result (told_with (H.told self.old.host) self.old.kept) (told_with (H.told self.new.host) self.new.kept) }
-        ensures passed { Passed (Resize file size) [] (λ _. Done) result (H.told self.old.host) (H.told self.new.host) }
+        ensures asked { Asked (Resize file size) [] (λ _. Done)
+            result (recorder_told H.told self.old) (recorder_told H.told self.new) }
+        ensures passed { Passed H.told (Resize file size) [] (λ _. Done)
+            result self.old.host self.new.host }
         ensures kept { Keeps (Resize file size) (λ _. Done) result self.old.kept self.new.kept }
     {
         self.records.reserve(1)?;
@@ -167,8 +184,10 @@ impl<H: Host> Host for Recorder<H> {
     }
 
     fn file_create(&mut self, dir: u32, name: &[u8], file: u32) -> Result<(), HostError>
-        ensures asked { Asked (Create dir file) name.now (λ _. Done) result (told_with (H.told self.old.host) self.old.kept) (told_with (H.told self.new.host) self.new.kept) }
-        ensures passed { Passed (Create dir file) name.now (λ _. Done) result (H.told self.old.host) (H.told self.new.host) }
+        ensures asked { Asked (Create dir file) name.now (λ _. Done)
+            result (recorder_told H.told self.old) (recorder_told H.told self.new) }
+        ensures passed { Passed H.told (Create dir file) name.now (λ _. Done)
+            result self.old.host self.new.host }
         ensures kept { Keeps (Create dir file) (λ _. Done) result self.old.kept self.new.kept }
     {
         self.records.reserve(1)?;
@@ -178,8 +197,10 @@ impl<H: Host> Host for Recorder<H> {
     }
 
     fn file_mkdir(&mut self, dir: u32, name: &[u8], file: u32) -> Result<(), HostError>
-        ensures asked { Asked (Mkdir dir file) name.now (λ _. Done) result (told_with (H.told self.old.host) self.old.kept) (told_with (H.told self.new.host) self.new.kept) }
-        ensures passed { Passed (Mkdir dir file) name.now (λ _. Done) result (H.told self.old.host) (H.told self.new.host) }
+        ensures asked { Asked (Mkdir dir file) name.now (λ _. Done)
+            result (recorder_told H.told self.old) (recorder_told H.told self.new) }
+        ensures passed { Passed H.told (Mkdir dir file) name.now (λ _. Done)
+            result self.old.host self.new.host }
         ensures kept { Keeps (Mkdir dir file) (λ _. Done) result self.old.kept self.new.kept }
     {
         self.records.reserve(1)?;
@@ -189,8 +210,10 @@ impl<H: Host> Host for Recorder<H> {
     }
 
     fn file_delete(&mut self, dir: u32, name: &[u8]) -> Result<(), HostError>
-        ensures asked { Asked (Delete dir) name.now (λ _. Done) result (told_with (H.told self.old.host) self.old.kept) (told_with (H.told self.new.host) self.new.kept) }
-        ensures passed { Passed (Delete dir) name.now (λ _. Done) result (H.told self.old.host) (H.told self.new.host) }
+        ensures asked { Asked (Delete dir) name.now (λ _. Done)
+            result (recorder_told H.told self.old) (recorder_told H.told self.new) }
+        ensures passed { Passed H.told (Delete dir) name.now (λ _. Done)
+            result self.old.host self.new.host }
         ensures kept { Keeps (Delete dir) (λ _. Done) result self.old.kept self.new.kept }
     {
         self.records.reserve(1)?;
@@ -207,10 +230,13 @@ impl<H: Host> Host for Recorder<H> {
         raw: &mut Raw,
     ) -> Result<(), HostError>
         requires { count ≤ 136 }
-        ensures asked { Asked (BlockRead disk sector count) [] (λ _. Bytes raw.new) result (told_with (H.told self.old.host) self.old.kept) (told_with (H.told self.new.host) self.new.kept) }
-        ensures passed { Passed (BlockRead disk sector count) [] (λ _. Bytes raw.new) result (H.told self.old.host) (H.told self.new.host) }
+        ensures asked { Asked (BlockRead disk sector count) [] (λ _. Bytes raw.new)
+            result (recorder_told H.told self.old) (recorder_told H.told self.new) }
+        ensures passed { Passed H.told (BlockRead disk sector count) [] (λ _. Bytes raw.new)
+            result self.old.host self.new.host }
         ensures fills { Fills (512 * count) result raw.new }
-        ensures kept { Keeps (BlockRead disk sector count) (λ _. Bytes raw.new) result self.old.kept self.new.kept }
+        ensures kept { Keeps (BlockRead disk sector count) (λ _. Bytes raw.new) result self.old.kept
+            self.new.kept }
     {
         raw.clear();
         self.records.reserve(5 + 512 * count as usize)?;
@@ -229,10 +255,13 @@ impl<H: Host> Host for Recorder<H> {
 
     fn file_read(&mut self, file: u32, at: u64, want: u32, raw: &mut Raw) -> Result<(), HostError>
         requires { want ≤ 69632 }
-        ensures asked { Asked (FileRead file at want) [] (λ _. Bytes raw.new) result (told_with (H.told self.old.host) self.old.kept) (told_with (H.told self.new.host) self.new.kept) }
-        ensures passed { Passed (FileRead file at want) [] (λ _. Bytes raw.new) result (H.told self.old.host) (H.told self.new.host) }
+        ensures asked { Asked (FileRead file at want) [] (λ _. Bytes raw.new)
+            result (recorder_told H.told self.old) (recorder_told H.told self.new) }
+        ensures passed { Passed H.told (FileRead file at want) [] (λ _. Bytes raw.new)
+            result self.old.host self.new.host }
         ensures fills { Fills want result raw.new }
-        ensures kept { Keeps (FileRead file at want) (λ _. Bytes raw.new) result self.old.kept self.new.kept }
+        ensures kept { Keeps (FileRead file at want) (λ _. Bytes raw.new) result self.old.kept
+            self.new.kept }
     {
         raw.clear();
         self.records.reserve(5 + want as usize)?;
@@ -249,10 +278,13 @@ impl<H: Host> Host for Recorder<H> {
         index: u64,
         raw: &mut Raw,
     ) -> Result<(), HostError>
-        ensures asked { Asked (TreeRead file level index) [] (λ _. Bytes raw.new) result (told_with (H.told self.old.host) self.old.kept) (told_with (H.told self.new.host) self.new.kept) }
-        ensures passed { Passed (TreeRead file level index) [] (λ _. Bytes raw.new) result (H.told self.old.host) (H.told self.new.host) }
+        ensures asked { Asked (TreeRead file level index) [] (λ _. Bytes raw.new)
+            result (recorder_told H.told self.old) (recorder_told H.told self.new) }
+        ensures passed { Passed H.told (TreeRead file level index) [] (λ _. Bytes raw.new)
+            result self.old.host self.new.host }
         ensures fills { Fills 4096 result raw.new }
-        ensures kept { Keeps (TreeRead file level index) (λ _. Bytes raw.new) result self.old.kept self.new.kept }
+        ensures kept { Keeps (TreeRead file level index) (λ _. Bytes raw.new) result self.old.kept
+            self.new.kept }
     {
         raw.clear();
         self.records.reserve(5 + 4096)?;
@@ -263,10 +295,13 @@ impl<H: Host> Host for Recorder<H> {
     }
 
     fn file_descriptor(&mut self, file: u32, raw: &mut Raw) -> Result<(), HostError>
-        ensures asked { Asked (Descriptor file) [] (λ _. Bytes raw.new) result (told_with (H.told self.old.host) self.old.kept) (told_with (H.told self.new.host) self.new.kept) }
-        ensures passed { Passed (Descriptor file) [] (λ _. Bytes raw.new) result (H.told self.old.host) (H.told self.new.host) }
+        ensures asked { Asked (Descriptor file) [] (λ _. Bytes raw.new)
+            result (recorder_told H.told self.old) (recorder_told H.told self.new) }
+        ensures passed { Passed H.told (Descriptor file) [] (λ _. Bytes raw.new)
+            result self.old.host self.new.host }
         ensures fills { Fills 256 result raw.new }
-        ensures kept { Keeps (Descriptor file) (λ _. Bytes raw.new) result self.old.kept self.new.kept }
+        ensures kept { Keeps (Descriptor file) (λ _. Bytes raw.new) result self.old.kept
+            self.new.kept }
     {
         raw.clear();
         self.records.reserve(5 + 256)?;

@@ -10,7 +10,8 @@ use std::alloc::AllocError;
 
 // Writes the header, where the text is empty.
 pub(crate) fn begin(text: &mut Vec<u8>) -> Result<(), AllocError>
-    ensures begun { (text.new.items ≡ text.old.items) ⊎ ((text.old.items ≡ []) × (text.new.items ≡ header)) }
+    ensures begun { (text.new.items ≡ text.old.items)
+        ⊎ ((text.old.items ≡ []) × (text.new.items ≡ header)) }
     ensures some { OnOk result (0 < length text.new.items) }
 {
     if text.is_empty() {
@@ -33,7 +34,8 @@ pub(crate) fn make_room(text: &mut Vec<u8>, bytes: usize) -> Result<(), AllocErr
 // Adds a record to a text that has room for it, and says where it lies.
 #[tactic(auto, unfolding(host_tape::specs::Tape::item_bytes))]
 pub(crate) fn put(next: Next<'_>, text: &mut Vec<u8>) -> Place
-    requires room { length text.old.items + length (item_bytes (item_by next)) ≤ vec_capacity text.old }
+    requires room { length text.old.items + length (item_bytes (item_by next)) ≤ vec_capacity
+        text.old }
     requires is { IsItem (item_by next) }
     ensures text { text.new.items ≡ text.old.items ++ item_bytes (item_by next.entry) }
     ensures says { item_in text.new.items result ≡ item_by next.entry }

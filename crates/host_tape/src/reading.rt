@@ -11,7 +11,8 @@ use std::alloc::Global;
 /// The record at the front, with its place there, and how many bytes it has.
 #[tactic(auto, unfolding(crate::specs::Reading::record_of))]
 fn front_record(rest: &[u8]) -> Option<(Place, usize)>
-    ensures found { MatchOption result (record_of rest.now ≡ None) (λ x. record_of rest.now ≡ Some (item_in rest.now x.0, x.1)) }
+    ensures found { MatchOption result (record_of rest.now ≡ None)
+        (λ x. record_of rest.now ≡ Some (item_in rest.now x.0, x.1)) }
     ensures some { IfSome result (λ x. 0 < x.1) }
     ensures within { IfSome result (λ x. x.1 ≤ length rest.now) }
     ensures inside { IfSome result (λ x. from_in x.0 ≤ 5) }

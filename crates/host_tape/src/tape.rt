@@ -100,7 +100,8 @@ impl Tape {
     fn hear(&mut self, call: Call, most: usize, raw: &mut Raw) -> Result<(), HostError>
         requires kind { kind_of call ≡ kind_bytes most }
         requires most { most ≤ 69632 }
-        ensures asked { Asked call [] (λ _. Bytes raw.new) result (tape_told self.old) (tape_told self.new) }
+        ensures asked { Asked call [] (λ _. Bytes raw.new) result (tape_told self.old)
+            (tape_told self.new) }
         ensures fills { Fills most result raw.new }
     {
         raw.clear();
@@ -138,7 +139,8 @@ impl Tape {
     // Answers a call that is only done.
     fn done(&mut self, call: Call, given: &[u8]) -> Result<(), HostError>
         requires { kind_of call ≡ kind_done }
-        ensures { Asked call given.now (λ _. Done) result (tape_told self.old) (tape_told self.new) }
+        ensures { Asked call given.now (λ _. Done) result (tape_told self.old)
+            (tape_told self.new) }
     {
         match self.next() {
             Some(Next::Done) => {}

@@ -12,7 +12,8 @@ use std::alloc::AllocError;
 #[tactic(auto, unfolding(crate::specs::Tape::item_bytes))]
 fn put_bytes(bytes: &[u8], out: &mut Vec<u8>) -> Result<(), AllocError>
     requires { length bytes.now ≤ 69632 }
-    ensures ok { OnOk result (out.new.items ≡ out.old.items ++ (3 ∷ (to_le_bytes w32 (length bytes.now) ++ bytes.now))) }
+    ensures ok { OnOk result
+        (out.new.items ≡ out.old.items ++ (3 ∷ (to_le_bytes w32 (length bytes.now) ++ bytes.now))) }
     ensures kept { take (length out.old.items) out.new.items ≡ out.old.items }
 {
     let size = (bytes.len() as u32).to_le_bytes();
