@@ -1,4 +1,5 @@
 pub mod Tree
+pub mod Digests
 pub mod Fed
 pub mod Faults
 pub mod Measured

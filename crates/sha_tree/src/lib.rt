@@ -18,7 +18,7 @@ pub mod measure;
 
 pub use builder::{BuildFault, Builder, build_tree};
 pub use finish::Tree;
-pub use laws::{paths_are_sound, stored_pages_lie_in_order};
+pub use laws::{digests_make_the_tree, paths_are_sound, stored_pages_lie_in_order};
 pub use leaves::{leaf_root, page_digest};
 pub use measure::Measure;
 
