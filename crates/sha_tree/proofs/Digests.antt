@@ -6,7 +6,7 @@ use Rattle.std.proofs.lemmas.List.{get_or_default}
 use Rattle.std.proofs.lemmas.List.FromFn.{length-range_with_len}
 use Rattle.sha2.specs.Sha256.{sha256}
 use Rattle.mg_base.specs.declared.values.Digest.{Digest}
-use Rattle.sha_tree.specs.Tree.{padded_salt, page_hash, pages_at, children, page, block, block_count, root, top, AreLeaves}
+use Rattle.sha_tree.specs.Tree.{padded_salt, page_hash, pages_at, children, page, block_count, root, top, AreLeaves}
 use Rattle.sha_tree.specs.Digests.{no_digest, leaf, slots_of, digest_at, tree_page, tree_root}
 use Rattle.sha_tree.proofs.Levels.{pages_at-top}
 use Rattle.sha_tree.proofs.LeafPages.{page-pieces}

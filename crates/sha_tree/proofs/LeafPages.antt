@@ -1,23 +1,13 @@
 -- Pages over the digests of blocks.
 use Rattle.std.proofs.Common.{◌≡◌, ℕ, zero, suc, ◌+◌, ◌-◌, ◌*◌, ◌<◌, ◌≤◌, ◌∙◌, List, [], ◌∷◌, ◌++◌, length, replicate, min, refl, ap, sym, subst, arith, append_assoc, append-nil}
-use Rattle.std.specs.Prelude.{slice_index_or}
 use Rattle.std.specs.List.{range_with_len, flat_map}
 use Rattle.std.proofs.lemmas.List.{replicate-append-replicate}
 use Rattle.std.proofs.lemmas.List.Concat.{flat_map-append}
-use Rattle.sha2.specs.Sha256.{sha256}
 use Rattle.sha2.specs.Hashers.{Holds256}
 use Rattle.sha2.specs.declared.Sha256.{Sha256}
-use Rattle.mg_base.specs.declared.values.Digest.{Digest}
-use Rattle.sha_tree.specs.Tree.{padded_salt, page_hash, pages_at, children, page, block_count, AreLeaves}
+use Rattle.sha_tree.specs.Tree.{page_hash, pages_at, children, page, block_count}
 use Rattle.sha_tree.proofs.Levels.{range_with_len-more}
 use Rattle.sha_tree.proofs.Pages.{length-pieces, length-page_hash}
-
--- a block's digest
-pub leaf_is : (bytes salt : List ℕ) (leaves : List Digest) (level i : ℕ) (d : Digest) → AreLeaves bytes salt leaves → level ≡ 0 → i < length leaves →
-    (slice_index_or leaves i d).0 ≡ page_hash salt (page bytes salt level i)
-unfolding page
-leaf_is bytes salt leaves level i d h z within =
-    subst (λ (l : ℕ). (slice_index_or leaves i d).0 ≡ page_hash salt (page bytes salt l i)) (sym z) (h.each i d within)
 
 -- a page's first child is there
 pub first_child : (count level i : ℕ) → 0 < level → i < pages_at count level → 128 * i < pages_at count (level - 1)
@@ -63,15 +53,3 @@ page-pieces bytes salt below i n is =
     let len = length-pieces f (128 * i) n (λ j. length-page_hash salt (page bytes salt below j)) in
     let room : 4096 - length (flat_map f (range_with_len (128 * i) n)) ≡ 32 * (128 - n) = omega arith in
     rw is (ap (λ (c : ℕ). flat_map f (range_with_len (128 * i) n) ++ replicate {A = ℕ} c 0) room)
-
--- the hash of a page from its pieces
-pub hash-pieces : (bytes salt : List ℕ) (leaves : List Digest) (level i n : ℕ) (digest : List ℕ) → AreLeaves bytes salt leaves → 0 < level →
-    n ≡ min 128 (pages_at (length leaves) (level - 1) - 128 * i) →
-    digest ≡ sha256 (padded_salt salt ++ (flat_map (λ j. page_hash salt (page bytes salt (level - 1) j)) (range_with_len (128 * i) n) ++ replicate (32 * (128 - n)) 0)) →
-    digest ≡ page_hash salt (page bytes salt level i)
-unfolding page_hash
-hash-pieces bytes salt leaves level i n digest h some count is =
-    let up : suc (level - 1) ≡ level = omega arith in
-    let few : min 128 (pages_at (block_count (length bytes)) (level - 1) - 128 * i) ≡ n =
-    ap (λ (c : ℕ). min 128 (pages_at c (level - 1) - 128 * i)) (sym h.count) ∙ sym count in
-    is ∙ ap (λ (p : List ℕ). sha256 (padded_salt salt ++ p)) (sym (page-pieces bytes salt (level - 1) i n few) ∙ ap (λ (l : ℕ). page bytes salt l i) up)

@@ -1,6 +1,7 @@
--- The hash tree over a list of block digests: the blocks make the tree through their digests alone. In a page the digests of the
--- pages below stand in slots of 32 bytes, and zeros in the slots that are left of 128.
-use Rattle.std.specs.Prelude.{ℕ, zero, suc, ◌+◌, ◌-◌, ◌*◌, List, [], ◌++◌, length, replicate, slice_index_or}
+-- The hash tree over a list of block digests: the blocks make the tree through their digests alone.
+-- In a page the digests of the pages below stand in slots of 32 bytes, and zeros in the slots that
+-- are left of 128.
+use Rattle.std.specs.Prelude.{ℕ, zero, suc, ◌-◌, ◌*◌, List, [], ◌++◌, length, replicate, slice_index_or}
 use Rattle.std.specs.List.{flat_map}
 use Rattle.mg_base.specs.declared.values.Digest.{Digest}
 use Rattle.sha_tree.specs.Tree.{page_hash, pages_at, top, children}

@@ -1,5 +1,5 @@
-//! Hash trees over pages of 4096 bytes, with SHA-256, as fs-verity defines them (Linux kernel documentation of
-//! fs-verity, "Merkle tree").
+//! Hash trees over pages of 4096 bytes, with SHA-256, as fs-verity defines them (Linux kernel
+//! documentation of fs-verity, "Merkle tree").
 #![tactic(auto)]
 
 ghost use Rattle.std.specs.Prelude.{◌≡◌, ℕ, ◌+◌, ◌-◌, ◌*◌, ◌≤◌, ◌<◌, ◌↔◌, List, length, take, drop, ◌++◌, replicate, IfSome, IsSome};
@@ -48,8 +48,8 @@ pub(crate) fn hash_block(salt: &Salt, block: &[u8]) -> Digest
     Digest(hasher.finalize())
 }
 
-/// The hash of a page: SHA-256 (FIPS 180-4) of the salt, padded with zeros to a multiple of 64 bytes, and of the page's
-/// 4096 bytes. No salt adds nothing. It takes no memory.
+/// The hash of a page: SHA-256 (FIPS 180-4) of the salt, padded with zeros to a multiple of 64
+/// bytes, and of the page's 4096 bytes. No salt adds nothing. It takes no memory.
 pub fn hash_page(salt: &Salt, page: &Page) -> Digest
     ensures { result.0 ≡ page_hash salt.now page.now }
 {
@@ -72,7 +72,8 @@ pub fn top_level(blocks: u64) -> u32
     level
 }
 
-/// The shape of the tree over so many blocks, at most 1,048,576 (4 GiB). Contracts see their number. No call takes memory.
+/// The shape of the tree over so many blocks, at most 1,048,576 (4 GiB). Contracts see their
+/// number. No call takes memory.
 #[derive(Drop)]
 pub struct Geometry {
     blocks: u64,
@@ -139,7 +140,8 @@ impl Geometry {
         count
     }
 
-    /// The number of a page above the blocks in the stored tree, which has the levels from the top down.
+    /// The number of a page above the blocks in the stored tree, which has the levels from the top
+    /// down.
     pub fn place(&self, level: u32, index: u64) -> u64
         requires low { 1 ≤ level }
         requires high { level ≤ top self.now }
