@@ -1,86 +1,72 @@
-// The files of the file system.
-ghost use Rattle.std.specs.Prelude.{◌≡◌, ◌≤◌, None, Ok, IfOk, vec_len};
+// The files of the system as a folder.
+ghost use Rattle.std.specs.Prelude.{◌≡◌, None, Ok, IfOk};
 ghost use Rattle.std.specs.Option.{option_map};
 ghost use Rattle.host_traits.specs.Folders.{HasErrand, errand_of};
 
+use crate::loading::{read_file, read_part};
+use crate::storing::store_file;
 use host_traits::{Folder, FolderCall, FolderError};
 use std::alloc::Global;
-use std::fs::{self, OpenFile};
-use std::io::{self, ErrorKind, Read, Seek, SeekFrom};
+use std::io::{self, ErrorKind};
 use std::rt::Files;
 
 /// Files by their paths, with the count of failures and the last call that failed. What the files hold isn't known.
 #[derive(Drop)]
-pub struct Disk<'a, R> {
+pub struct RealFolder<'a, R> {
     rt: &'a R,
     faults: u64,
     last: Option<FolderCall>,
+    reason: Option<io::Error>,
 }
 
-// The bytes of a file, but at most so many.
-fn read_file<R: Files>(rt: &R, alloc: Global, name: &str, most: u64) -> io::Result<Vec<u8>> {
-    let file = fs::open(rt, name)?;
-    let size = file.metadata()?.len().min(most);
-    let mut bytes = Vec::with_capacity(alloc, (size as usize).saturating_add(1))?;
-    file.take(most).read_to_end(&mut bytes)?;
-    Ok(bytes)
-}
-
-// The bytes of a file from a place on, but at most so many.
-fn read_part<R: Files>(rt: &R, alloc: Global, name: &str, at: u64, most: u64) -> io::Result<Vec<u8>>
-    ensures { IfOk result (λ part. vec_len part ≤ most) }
-{
-    let mut file = fs::open(rt, name)?;
-    file.seek(SeekFrom::Start(at))?;
-    let mut part = Vec::with_capacity(alloc, (most as usize).saturating_add(1))?;
-    file.take(most).read_to_end(&mut part)?;
-    part.truncate(most as usize);
-    Ok(part)
-}
-
-// Writes the bytes beside the file, and moves them into its place.
-fn replace_file<R: Files>(rt: &R, alloc: Global, name: &str, bytes: &[u8]) -> io::Result<()> {
-    let beside = format!(in alloc; "{name}.new")?;
-    fs::write(rt, beside.as_str(), bytes)?;
-    fs::rename(rt, beside.as_str(), name)
-}
-
-impl<'a, R> Disk<'a, R> {
+impl<'a, R> RealFolder<'a, R> {
     /// No call failed yet.
-    pub fn new(rt: &'a R) -> Disk<'a, R>
+    pub fn new(rt: &'a R) -> RealFolder<'a, R>
         ensures faults { result.faults ≡ 0 }
         ensures last { result.last ≡ None }
     {
-        Disk {
+        RealFolder {
             rt,
             faults: 0,
             last: None,
+            reason: None,
+        }
+    }
+
+    /// The name of the last call that failed, and the system's reason.
+    pub fn failure(&self) -> Option<(&str, io::Error)> {
+        match (&self.last, self.reason) {
+            (Some(FolderCall::Load(name)), Some(reason)) => Some((name.as_str(), reason)),
+            (Some(FolderCall::Store(name)), Some(reason)) => Some((name.as_str(), reason)),
+            _ => None,
         }
     }
 
     // What a call answers that ended so: want of memory is no failure, all else is one.
     fn answer<T>(&mut self, call: FolderCall, ended: io::Result<T>) -> Result<T, FolderError>
         ensures value { IfOk result (λ done. ended ≡ Ok done) }
-        ensures cause { HasErrand (errand_of call) self.old.faults self.new.faults (option_map errand_of self.old.last) (option_map errand_of self.new.last) result }
+        ensures cause { HasErrand (errand_of call) self.old.faults self.new.faults
+            (option_map errand_of self.old.last) (option_map errand_of self.new.last) result }
     {
         match ended {
             Ok(done) => Ok(done),
             Err(error) if error.kind() == ErrorKind::OutOfMemory => Err(FolderError::Memory),
-            Err(_) => {
+            Err(error) => {
                 self.faults = self.faults.saturating_add(1);
                 self.last = Some(call);
+                self.reason = Some(error);
                 Err(FolderError::Failed)
             }
         }
     }
 }
 
-impl<R: Files> Folder for Disk<'_, R> {
-    ghost files = { λ d. None };
+impl<R: Files> Folder for RealFolder<'_, R> {
+    ghost files = { λ f. None };
 
-    ghost faults = { λ d. d.faults };
+    ghost faults = { λ f. f.faults };
 
-    ghost last_failed = { λ d. option_map errand_of d.last };
+    ghost last_failed = { λ f. option_map errand_of f.last };
 
     fn load(&mut self, alloc: Global, name: &str, max: u64) -> Result<Vec<u8>, FolderError> {
         let Ok(copy) = String::from_str(alloc, name) else {
@@ -108,7 +94,7 @@ impl<R: Files> Folder for Disk<'_, R> {
         let Ok(copy) = String::from_str(alloc, name) else {
             return Err(FolderError::Memory);
         };
-        let stored = replace_file(self.rt, alloc, name, bytes);
+        let stored = store_file(self.rt, alloc, name, bytes);
         self.answer(FolderCall::Store(copy), stored)
     }
 }
