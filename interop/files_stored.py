@@ -13,7 +13,7 @@ import subprocess
 import threading
 
 from lib.devices import TAPE, Device, reply, request, told
-from lib.frame import Differs, check, content, program, read, same, write
+from lib.frame import check, content, program, read, same, write
 
 PROGRAMS = ("guest", "mkguest")
 
@@ -174,10 +174,10 @@ def no_files():
         os.symlink("pipe", "link")
         for out in ("pipe", "link"):
             heard = []
-            hearer = threading.Thread(target=lambda: heard.append(read("pipe")))
+            hearer = threading.Thread(target=lambda: heard.append(read("pipe")), daemon=True)
             hearer.start()
             stored(f"a {out}", {}, "mkguest", "idsig", "c", "-", out)
-            hearer.join()
+            hearer.join(60)
             same(f"what came through a {out}", heard, [MADE])
         os.symlink("/dev/null", "null")
         before = kept("/dev/null"), kept("/dev/full")
@@ -186,6 +186,18 @@ def no_files():
         refused("a full device", "mkguest", "idsig", "c", "-", "/dev/full", out=b"end 3 file /dev/full\n", err=os.strerror(errno.ENOSPC))
         same("the devices", (kept("/dev/null"), kept("/dev/full")), before)
         stored("standard output as a file", {}, "mkguest", "idsig", "c", "-", "/dev/stdout", out=MADE)
+
+
+def other_user():
+    """How a program is run by one who may not do all. None where root can't be another user, or that one can't reach it."""
+    if os.geteuid() != 0:
+        return {}
+    other = {"user": NOBODY, "group": NOBODY, "extra_groups": []}
+    try:
+        ran("mkguest", **other)
+    except OSError:
+        return None
+    return other
 
 
 def modes():
@@ -203,7 +215,7 @@ def modes():
     with room():
         ended("a mask", ran("mkguest", "idsig", "c", "-", "o", umask=0o077), 0)
         same("a file under a mask", kept("o"), ("0o100600", 1, MADE))
-    if os.geteuid() == 0:
+    if other_user():
         with room(o=b"before"):
             os.chown("o", NOBODY, NOBODY)
             stored("another's file", {"o": MADE}, "mkguest", "idsig", "c", "-", "o")
@@ -237,7 +249,9 @@ def failing():
 
 def forbidden():
     """A folder in which nothing may be made, and one in which another's file may not be replaced."""
-    other = {"user": NOBODY, "group": NOBODY, "extra_groups": []} if os.geteuid() == 0 else {}
+    other = other_user()
+    if other is None:
+        return
     with room(o=b"before"):
         os.chmod(".", 0o555)
         for out in ("o", "new"):
