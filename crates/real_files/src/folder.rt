@@ -7,6 +7,7 @@ use crate::loading::{read_file, read_part};
 use crate::storing::store_file;
 use host_traits::{Folder, FolderCall, FolderError};
 use std::alloc::Global;
+use std::fs::File;
 use std::io::{self, ErrorKind};
 use std::rt::Files;
 
@@ -61,7 +62,7 @@ impl<'a, R> RealFolder<'a, R> {
     }
 }
 
-impl<R: Files> Folder for RealFolder<'_, R> {
+impl<R: Files<File = File>> Folder for RealFolder<'_, R> {
     ghost files = { λ f. None };
 
     ghost faults = { λ f. f.faults };

@@ -4,9 +4,9 @@ ghost use Rattle.std.specs.Fs.{asks_create_new};
 ghost use Rattle.std.specs.Io.KnownBytes.{Appends};
 
 use std::alloc::Global;
-use std::fs::{self, Metadata, OpenFile, OpenOptions};
+use std::fs::{self, File, Metadata, OpenFile, OpenOptions};
 use std::io::{self, Error, ErrorKind, Write};
-use std::os::unix::fs::{MetadataExt, OpenOptionsExt, lchown};
+use std::os::unix::fs::{MetadataExt, OpenOptionsExt, fchown};
 use std::path::{Path, PathBuf};
 use std::rt::Files;
 
@@ -73,9 +73,9 @@ fn new_file<R: Files>(
 }
 
 // Group and owner of the file that was there before, where the system lets this process give them.
-fn keep_owner<R: Files>(rt: &R, path: Path<'_>, before: &Metadata) {
-    let _ = lchown(rt, path, None, Some(before.gid()));
-    let _ = lchown(rt, path, Some(before.uid()), None);
+fn keep_owner(file: &File, before: &Metadata) {
+    let _ = fchown(file, None, Some(before.gid()));
+    let _ = fchown(file, Some(before.uid()), None);
 }
 
 // Puts the bytes into a new file, gives it the mode of the one that was there before, and has all of it on the disk.
@@ -111,7 +111,7 @@ fn sync_folder<R: Files>(rt: &R, target: Path<'_>) -> io::Result<()> {
 }
 
 // Puts the bytes into a new file and moves that to the target. Where this fails the new file is removed.
-fn replace<R: Files>(
+fn replace<R: Files<File = File>>(
     rt: &R,
     alloc: Global,
     target: Path<'_>,
@@ -121,7 +121,7 @@ fn replace<R: Files>(
     let mode = if before.is_some() { 0o600 } else { 0o666 };
     let (mut file, path) = new_file(rt, alloc, target, mode)?;
     if let Some(before) = before {
-        keep_owner(rt, path.as_path(), before);
+        keep_owner(&file, before);
     }
     let moved = match fill(&mut file, bytes, before) {
         Ok(()) => fs::rename(rt, &path, target),
@@ -142,7 +142,7 @@ fn write_through<R: Files>(rt: &R, name: &str, bytes: &[u8]) -> io::Result<()> {
 }
 
 /// Puts these bytes in place of a file's, or into a file that isn't there yet.
-pub(crate) fn store_file<R: Files>(
+pub(crate) fn store_file<R: Files<File = File>>(
     rt: &R,
     alloc: Global,
     name: &str,
