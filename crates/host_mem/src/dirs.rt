@@ -3,11 +3,11 @@ ghost use Rattle.std.specs.Prelude.{◌≡◌, List, ℕ, [], OnOk, OnErr, IsSom
 ghost use Rattle.host_traits.specs.declared.calls.Call.TheVariants.{Create, Mkdir, Delete};
 ghost use Rattle.host_traits.specs.declared.calls.Said.TheVariants.{Done};
 ghost use Rattle.host_traits.specs.Held.{is_there};
-ghost use Rattle.host_mem.specs.Mem.{Named, Entries, DiskData, FileData, Does, at, held_of, names_have, may_make, Puts};
+ghost use Rattle.mem_files.specs.Files.{Entries, FileData, at, Puts};
+ghost use Rattle.host_mem.specs.Mem.{Named, DiskData, Does, held_of, names_have, may_make};
 
-use crate::mem_file::MemFile;
-use crate::names::Names;
 use host_traits::HostError;
+use mem_files::{MemFile, Names};
 use mg_base::Memory;
 use std::alloc::Global;
 use std::collections::BTreeMap;

@@ -4,7 +4,8 @@ ghost use Rattle.std.specs.Option.{option_map};
 ghost use Rattle.host_traits.specs.declared.calls.Call.TheVariants.{BlockSize, BlockRead, BlockWrite, BlockSync};
 ghost use Rattle.host_traits.specs.declared.calls.Said.TheVariants.{Number, Bytes, Done};
 ghost use Rattle.host_traits.specs.Told.{Fills};
-ghost use Rattle.host_mem.specs.Mem.{Entries, DiskData, FileData, NameList, Does, Puts, at, covers, disk_of, held_of};
+ghost use Rattle.mem_files.specs.Files.{Entries, FileData, NameList, Puts, at};
+ghost use Rattle.host_mem.specs.Mem.{DiskData, Does, covers, disk_of, held_of};
 
 use crate::mem_disk::MemDisk;
 use host_traits::{HostError, Raw};

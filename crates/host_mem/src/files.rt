@@ -4,10 +4,11 @@ ghost use Rattle.std.specs.Option.{option_map};
 ghost use Rattle.host_traits.specs.declared.calls.Call.TheVariants.{FileRead, TreeRead, Descriptor, FileWrite, TreeWrite, Resize};
 ghost use Rattle.host_traits.specs.declared.calls.Said.TheVariants.{Bytes, Done};
 ghost use Rattle.host_traits.specs.Told.{Fills};
-ghost use Rattle.host_mem.specs.Mem.{Entries, DiskData, FileData, NameList, Does, Puts, at, file_of, held_of, blank_file};
+ghost use Rattle.mem_files.specs.Files.{Entries, FileData, NameList, Puts, at, file_of, blank_file};
+ghost use Rattle.host_mem.specs.Mem.{DiskData, Does, held_of};
 
-use crate::mem_file::MemFile;
 use host_traits::{HostError, Raw};
+use mem_files::MemFile;
 use mg_base::Memory;
 use std::alloc::Global;
 use std::collections::BTreeMap;

@@ -8,19 +8,19 @@ ghost use Rattle.host_traits.specs.Held.{empty_file, is_there, with_dir, with_fi
 ghost use Rattle.host_traits.specs.Told.{Asked, Fills, Told, IsHeardSize};
 ghost use Rattle.composite_spec.specs.Said.{IsComposite, composite};
 ghost use Rattle.block_map.specs.Disk.{contents};
-ghost use Rattle.host_mem.specs.Made.{RefusesAlias, composite_disk, nothing, plain_disk, verity_file, with_disk};
+ghost use Rattle.mem_files.specs.FsVerity.{verity_file};
+ghost use Rattle.host_mem.specs.Made.{RefusesAlias, composite_disk, nothing, plain_disk, with_disk};
 ghost use Rattle.host_mem.specs.Mem.{FailsBy, IsNumbered, mem_held, mem_told, unused};
 
 use crate::count::Tally;
 use crate::fault::CompositeFault;
 use crate::mem_disk::MemDisk;
-use crate::mem_file::MemFile;
-use crate::names::Names;
-use crate::verity::verity;
 use crate::{dirs, disks, files};
 use block_map::{Map, MapFault};
 use composite_spec::Spec;
 use host_traits::{Call, Host, HostError, Raw};
+use mem_files::verity::verity;
+use mem_files::{MemFile, Names};
 use mg_base::{Memory, Salt};
 use std::alloc::Global;
 use std::collections::BTreeMap;
@@ -70,7 +70,7 @@ impl MemHost {
     }
 
     /// Where memory is taken.
-    pub(crate) fn alloc(&self) -> Global {
+    pub fn alloc(&self) -> Global {
         self.alloc
     }
 

@@ -1,6 +1,7 @@
 use Rattle.std.proofs.Common.{◌≡◌, ◌∙◌, ◌+◌, ◌*◌, [], true, false, length, sym, refl, Some, None}
 use Rattle.std.specs.Prelude.{nat_le}
-use Rattle.host_mem.specs.Mem.{at, disk_of}
+use Rattle.mem_files.specs.Files.{at}
+use Rattle.host_mem.specs.Mem.{disk_of}
 use Rattle.host_mem.proofs.Changes.{no_disk, past_disk, reads_disk}
 use Rattle.host_mem.proofs.disks.read.Goals as goal
 

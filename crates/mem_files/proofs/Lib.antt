@@ -1,0 +1,5 @@
+pub mod NameKeys
+pub mod ByteLists
+pub mod Kept
+pub mod TreeKeys
+pub mod Trees
