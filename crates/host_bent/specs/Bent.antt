@@ -1,5 +1,5 @@
 -- A host in memory whose answers are bent.
-use Rattle.std.specs.Prelude.{◌≡◌, ◌+◌, ℕ, nat_eq, if◌then◌else◌, List, [], ◌∷◌, length, take, slice_index, slice_set, vec_capacity, ◌≤◌, bit_xor, Option, Some, None, Result, Ok, Err, Bool, false, true}
+use Rattle.std.specs.Prelude.{◌≡◌, ◌+◌, ℕ, nat_eq, if◌then◌else◌, List, [], ◌∷◌, length, take, slice_index, slice_set, vec_capacity, ◌≤◌, bit_xor, ◌⊎◌, Option, Some, None, Result, Ok, Err, Bool, false, true}
 use Rattle.std.specs.Global.{Vec}
 use Rattle.host_traits.specs.declared.calls.Call.{Call}
 use Rattle.host_traits.specs.declared.calls.Said.{Said}
@@ -10,7 +10,7 @@ use Rattle.host_traits.specs.Mem.{one_more}
 use Rattle.host_traits.specs.Told.{Told, Asked}
 use Rattle.host_bent.specs.declared.bends.Bend.{Bend}
 use Rattle.host_bent.specs.declared.bends.Bend.TheVariants.{Fail, Number, Bytes, Flip}
-use Rattle.host_mem.specs.Mem.{Mem, mem_told}
+use Rattle.host_mem.specs.Mem.{Mem, mem_told, FailsBy, IsNumbered}
 
 -- the bend that is listed for a call's number: the first, where there are several
 abbrev pub bend_at : List (ℕ × Bend) → ℕ → Option Bend
@@ -86,10 +86,18 @@ count_told b = record {
 abbrev pub bent_told : BentMem → Told
 bent_told b = count_told b.count
 
+-- The host behind counted the call, failed where it is to fail, and keeps its list of failing calls; or it wasn't asked, where
+-- there was no room for the bytes to be flipped, and is as it was.
+abbrev pub IsPassed : Call → List ℕ → Result Said HostError → BentMem → BentMem → Type 0
+IsPassed call given own old new =
+    (IsNumbered old.host.count new.host.count × FailsBy call given own old.host)
+    ⊎ ((own ≡ Err Memory) × (is_flip (bend_at old.count.bends old.count.calls) ≡ true) × (new.host ≡ old.host))
+
 -- The host behind answered, as its own contract says, and this is its answer bent by what is listed for the call's
--- number. Where there was no room for the bytes to be flipped, the host behind wasn't asked, and the answer is want of memory.
+-- number. Where there was no room for the bytes to be flipped, the host behind wasn't asked, and the answer is out of memory.
 pub record IsBent {T : Type 0} (most : ℕ) (call : Call) (given : List ℕ) (said : T → Said) (result : Result T HostError) (old new : BentMem) : Type 0 where
   pub own : Result Said HostError
   pub asked : Asked call given (λ s. s) own (mem_told old.host) (mem_told new.host)
+  pub passed : IsPassed call given own old new
   pub bent : said_as said result ≡ bent_by most (bend_at old.count.bends old.count.calls) own
   pub counted : new.count ≡ ended call (said_as said result) old.count

@@ -38,7 +38,8 @@ fn find(bends: &[(u64, Bend)], number: u64) -> Option<&Bend>
 
 // A number, bent.
 fn bent_number(bend: Option<&Bend>, own: Result<u64, HostError>) -> Result<u64, HostError>
-    ensures { said_as (λ n. SaidNumber n) result ≡ bent_by 0 (option_map (λ b. b.now) bend.entry) (said_as (λ n. SaidNumber n) own) }
+    ensures { said_as (λ n. SaidNumber n) result ≡ bent_by 0 (option_map (λ b. b.now) bend.entry)
+        (said_as (λ n. SaidNumber n) own) }
 {
     match bend {
         Some(Bend::Fail) => Err(HostError::Failed),
@@ -54,7 +55,8 @@ fn bent_number(bend: Option<&Bend>, own: Result<u64, HostError>) -> Result<u64, 
 
 // An answer that has no bytes and no number, bent.
 fn bent_done(bend: Option<&Bend>, own: Result<(), HostError>) -> Result<(), HostError>
-    ensures { said_as (λ _. SaidDone) result ≡ bent_by 0 (option_map (λ b. b.now) bend.entry) (said_as (λ _. SaidDone) own) }
+    ensures { said_as (λ _. SaidDone) result ≡ bent_by 0 (option_map (λ b. b.now) bend.entry)
+        (said_as (λ _. SaidDone) own) }
 {
     match bend {
         Some(Bend::Fail) => Err(HostError::Failed),
@@ -91,7 +93,8 @@ fn bent_bytes(
     requires most { most ≤ 69632 }
     requires room { HasRoom (option_map (λ b. b.now) bend) most room }
     requires fills { Fills most own raw.old }
-    ensures bent { said_as (λ _. SaidBytes raw.new) result ≡ bent_by most (option_map (λ b. b.now) bend.entry) (said_as (λ _. SaidBytes raw.old) own) }
+    ensures bent { said_as (λ _. SaidBytes raw.new) result
+        ≡ bent_by most (option_map (λ b. b.now) bend.entry) (said_as (λ _. SaidBytes raw.old) own) }
     ensures fills { Fills most result raw.new }
 {
     match bend {
@@ -138,7 +141,8 @@ impl Model for Bends {
 
 impl Bends {
     pub(crate) fn new(bends: Vec<(u64, Bend)>) -> Bends
-        ensures { result ≡ record { bends = bends.items; calls = 0; faults = 0; last_failed = None } }
+        ensures { result ≡ record
+            { bends = bends.items; calls = 0; faults = 0; last_failed = None } }
     {
         Bends {
             bends,
@@ -194,7 +198,8 @@ impl Bends {
         call: Call,
         own: Result<u64, HostError>,
     ) -> Result<u64, HostError>
-        ensures bent { said_as (λ n. SaidNumber n) result ≡ bent_by 0 (bend_at self.old.bends self.old.calls) (said_as (λ n. SaidNumber n) own) }
+        ensures bent { said_as (λ n. SaidNumber n) result
+            ≡ bent_by 0 (bend_at self.old.bends self.old.calls) (said_as (λ n. SaidNumber n) own) }
         ensures ended { self.new ≡ ended call (said_as (λ n. SaidNumber n) result) self.old }
         ensures small { self.old.faults < 2 ^ 64 }
     {
@@ -205,7 +210,8 @@ impl Bends {
 
     /// Bends the answer of a call that gives nothing, and counts the call.
     pub(crate) fn done(&mut self, call: Call, own: Result<(), HostError>) -> Result<(), HostError>
-        ensures bent { said_as (λ _. SaidDone) result ≡ bent_by 0 (bend_at self.old.bends self.old.calls) (said_as (λ _. SaidDone) own) }
+        ensures bent { said_as (λ _. SaidDone) result
+            ≡ bent_by 0 (bend_at self.old.bends self.old.calls) (said_as (λ _. SaidDone) own) }
         ensures ended { self.new ≡ ended call (said_as (λ _. SaidDone) result) self.old }
         ensures small { self.old.faults < 2 ^ 64 }
     {
@@ -226,7 +232,9 @@ impl Bends {
         requires most { most ≤ 69632 }
         requires room { HasRoom (bend_at self.old.bends self.old.calls) most room }
         requires fills { Fills most own raw.old }
-        ensures bent { said_as (λ _. SaidBytes raw.new) result ≡ bent_by most (bend_at self.old.bends self.old.calls) (said_as (λ _. SaidBytes raw.old) own) }
+        ensures bent { said_as (λ _. SaidBytes raw.new) result
+            ≡ bent_by most (bend_at self.old.bends self.old.calls)
+            (said_as (λ _. SaidBytes raw.old) own) }
         ensures ended { self.new ≡ ended call (said_as (λ _. SaidBytes raw.new) result) self.old }
         ensures small { self.old.faults < 2 ^ 64 }
         ensures fills { Fills most result raw.new }

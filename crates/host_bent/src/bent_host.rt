@@ -31,7 +31,9 @@ impl Model for Bent {
 impl Bent {
     /// This host, with the answers to the calls of these numbers bent. It takes no memory.
     pub fn new(host: MemHost, bends: Vec<(u64, Bend)>) -> Bent
-        ensures { result ≡ record { host = host; count = record { bends = bends.items; calls = 0; faults = 0; last_failed = None } } }
+        ensures { result ≡ record
+            { host = host; count = record
+            { bends = bends.items; calls = 0; faults = 0; last_failed = None } } }
     {
         Bent {
             host,
@@ -44,7 +46,8 @@ impl Host for Bent {
     ghost told = { λ b. bent_told b };
 
     fn block_size(&mut self, disk: u32) -> Result<u64, HostError>
-        ensures asked { Asked (BlockSize disk) [] (λ n. Number n) result (bent_told self.old) (bent_told self.new) }
+        ensures asked { Asked (BlockSize disk) [] (λ n. Number n) result (bent_told self.old)
+            (bent_told self.new) }
         ensures bent { IsBent 0 (BlockSize disk) [] (λ n. Number n) result self.old self.new }
     {
         let own = self.host.block_size(disk);
@@ -59,9 +62,11 @@ impl Host for Bent {
         raw: &mut Raw,
     ) -> Result<(), HostError>
         requires { count ≤ 136 }
-        ensures asked { Asked (BlockRead disk sector count) [] (λ _. Bytes raw.new) result (bent_told self.old) (bent_told self.new) }
+        ensures asked { Asked (BlockRead disk sector count) [] (λ _. Bytes raw.new) result
+            (bent_told self.old) (bent_told self.new) }
         ensures fills { Fills (512 * count) result raw.new }
-        ensures bent { IsBent (512 * count) (BlockRead disk sector count) [] (λ _. Bytes raw.new) result self.old self.new }
+        ensures bent { IsBent (512 * count) (BlockRead disk sector count) [] (λ _. Bytes raw.new)
+            result self.old self.new }
     {
         let call = Call::BlockRead {
             disk,
@@ -83,8 +88,10 @@ impl Host for Bent {
     fn block_write(&mut self, disk: u32, sector: u64, bytes: &[u8]) -> Result<(), HostError>
         requires whole { length bytes.now % 512 ≡ 0 }
         requires most { length bytes.now ≤ 69632 }
-        ensures asked { Asked (BlockWrite disk sector (length bytes.now / 512)) bytes.now (λ _. Done) result (bent_told self.old) (bent_told self.new) }
-        ensures bent { IsBent 0 (BlockWrite disk sector (length bytes.now / 512)) bytes.now (λ _. Done) result self.old self.new }
+        ensures asked { Asked (BlockWrite disk sector (length bytes.now / 512)) bytes.now
+            (λ _. Done) result (bent_told self.old) (bent_told self.new) }
+        ensures bent { IsBent 0 (BlockWrite disk sector (length bytes.now / 512)) bytes.now
+            (λ _. Done) result self.old self.new }
     {
         let own = self.host.block_write(disk, sector, bytes);
         self.bends.done(
@@ -98,7 +105,8 @@ impl Host for Bent {
     }
 
     fn block_sync(&mut self, disk: u32) -> Result<(), HostError>
-        ensures asked { Asked (BlockSync disk) [] (λ _. Done) result (bent_told self.old) (bent_told self.new) }
+        ensures asked { Asked (BlockSync disk) [] (λ _. Done) result (bent_told self.old)
+            (bent_told self.new) }
         ensures bent { IsBent 0 (BlockSync disk) [] (λ _. Done) result self.old self.new }
     {
         let own = self.host.block_sync(disk);
@@ -107,9 +115,11 @@ impl Host for Bent {
 
     fn file_read(&mut self, file: u32, at: u64, want: u32, raw: &mut Raw) -> Result<(), HostError>
         requires { want ≤ 69632 }
-        ensures asked { Asked (FileRead file at want) [] (λ _. Bytes raw.new) result (bent_told self.old) (bent_told self.new) }
+        ensures asked { Asked (FileRead file at want) [] (λ _. Bytes raw.new) result
+            (bent_told self.old) (bent_told self.new) }
         ensures fills { Fills (want) result raw.new }
-        ensures bent { IsBent (want) (FileRead file at want) [] (λ _. Bytes raw.new) result self.old self.new }
+        ensures bent { IsBent (want) (FileRead file at want) [] (λ _. Bytes raw.new) result self.old
+            self.new }
     {
         let call = Call::FileRead { file, at, want };
         raw.clear();
@@ -131,9 +141,11 @@ impl Host for Bent {
         index: u64,
         raw: &mut Raw,
     ) -> Result<(), HostError>
-        ensures asked { Asked (TreeRead file level index) [] (λ _. Bytes raw.new) result (bent_told self.old) (bent_told self.new) }
+        ensures asked { Asked (TreeRead file level index) [] (λ _. Bytes raw.new) result
+            (bent_told self.old) (bent_told self.new) }
         ensures fills { Fills (4096) result raw.new }
-        ensures bent { IsBent (4096) (TreeRead file level index) [] (λ _. Bytes raw.new) result self.old self.new }
+        ensures bent { IsBent (4096) (TreeRead file level index) [] (λ _. Bytes raw.new) result
+            self.old self.new }
     {
         let call = Call::TreeRead { file, level, index };
         raw.clear();
@@ -149,9 +161,11 @@ impl Host for Bent {
     }
 
     fn file_descriptor(&mut self, file: u32, raw: &mut Raw) -> Result<(), HostError>
-        ensures asked { Asked (Descriptor file) [] (λ _. Bytes raw.new) result (bent_told self.old) (bent_told self.new) }
+        ensures asked { Asked (Descriptor file) [] (λ _. Bytes raw.new) result (bent_told self.old)
+            (bent_told self.new) }
         ensures fills { Fills (256) result raw.new }
-        ensures bent { IsBent (256) (Descriptor file) [] (λ _. Bytes raw.new) result self.old self.new }
+        ensures bent { IsBent (256) (Descriptor file) [] (λ _. Bytes raw.new) result self.old
+            self.new }
     {
         let call = Call::Descriptor { file };
         raw.clear();
@@ -169,8 +183,10 @@ impl Host for Bent {
     fn file_write(&mut self, file: u32, at: u64, bytes: &[u8]) -> Result<(), HostError>
         requires most { length bytes.now ≤ 4096 }
         requires end { at + length bytes.now ≤ 2 ^ 32 }
-        ensures asked { Asked (FileWrite file at (length bytes.now)) bytes.now (λ _. Done) result (bent_told self.old) (bent_told self.new) }
-        ensures bent { IsBent 0 (FileWrite file at (length bytes.now)) bytes.now (λ _. Done) result self.old self.new }
+        ensures asked { Asked (FileWrite file at (length bytes.now)) bytes.now (λ _. Done) result
+            (bent_told self.old) (bent_told self.new) }
+        ensures bent { IsBent 0 (FileWrite file at (length bytes.now)) bytes.now (λ _. Done) result
+            self.old self.new }
     {
         let own = self.host.file_write(file, at, bytes);
         self.bends.done(
@@ -191,8 +207,10 @@ impl Host for Bent {
         bytes: &[u8],
     ) -> Result<(), HostError>
         requires { length bytes.now ≡ 4096 }
-        ensures asked { Asked (TreeWrite file level index) bytes.now (λ _. Done) result (bent_told self.old) (bent_told self.new) }
-        ensures bent { IsBent 0 (TreeWrite file level index) bytes.now (λ _. Done) result self.old self.new }
+        ensures asked { Asked (TreeWrite file level index) bytes.now (λ _. Done) result
+            (bent_told self.old) (bent_told self.new) }
+        ensures bent { IsBent 0 (TreeWrite file level index) bytes.now (λ _. Done) result self.old
+            self.new }
     {
         let own = self.host.file_tree_write(file, level, index, bytes);
         self.bends.done(Call::TreeWrite { file, level, index }, own)
@@ -200,7 +218,8 @@ impl Host for Bent {
 
     fn file_resize(&mut self, file: u32, size: u64) -> Result<(), HostError>
         requires { size ≤ 2 ^ 32 }
-        ensures asked { Asked (Resize file size) [] (λ _. Done) result (bent_told self.old) (bent_told self.new) }
+        ensures asked { Asked (Resize file size) [] (λ _. Done) result (bent_told self.old)
+            (bent_told self.new) }
         ensures bent { IsBent 0 (Resize file size) [] (λ _. Done) result self.old self.new }
     {
         let own = self.host.file_resize(file, size);
@@ -208,7 +227,8 @@ impl Host for Bent {
     }
 
     fn file_create(&mut self, dir: u32, name: &[u8], file: u32) -> Result<(), HostError>
-        ensures asked { Asked (Create dir file) name.now (λ _. Done) result (bent_told self.old) (bent_told self.new) }
+        ensures asked { Asked (Create dir file) name.now (λ _. Done) result (bent_told self.old)
+            (bent_told self.new) }
         ensures bent { IsBent 0 (Create dir file) name.now (λ _. Done) result self.old self.new }
     {
         let own = self.host.file_create(dir, name, file);
@@ -216,7 +236,8 @@ impl Host for Bent {
     }
 
     fn file_mkdir(&mut self, dir: u32, name: &[u8], file: u32) -> Result<(), HostError>
-        ensures asked { Asked (Mkdir dir file) name.now (λ _. Done) result (bent_told self.old) (bent_told self.new) }
+        ensures asked { Asked (Mkdir dir file) name.now (λ _. Done) result (bent_told self.old)
+            (bent_told self.new) }
         ensures bent { IsBent 0 (Mkdir dir file) name.now (λ _. Done) result self.old self.new }
     {
         let own = self.host.file_mkdir(dir, name, file);
@@ -224,7 +245,8 @@ impl Host for Bent {
     }
 
     fn file_delete(&mut self, dir: u32, name: &[u8]) -> Result<(), HostError>
-        ensures asked { Asked (Delete dir) name.now (λ _. Done) result (bent_told self.old) (bent_told self.new) }
+        ensures asked { Asked (Delete dir) name.now (λ _. Done) result (bent_told self.old)
+            (bent_told self.new) }
         ensures bent { IsBent 0 (Delete dir) name.now (λ _. Done) result self.old self.new }
     {
         let own = self.host.file_delete(dir, name);

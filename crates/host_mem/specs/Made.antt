@@ -1,10 +1,10 @@
 -- What is put into a host in memory.
-use Rattle.std.specs.Prelude.{◌+◌, ℕ, Bool, true, nat_eq, nat_le, nat_lt, ◌&&◌, if◌then◌else◌, List, [], length, replicate, slice_index_or, Some, None, Result, Ok, Err}
+use Rattle.std.specs.Prelude.{◌+◌, ℕ, Bool, true, nat_eq, nat_le, nat_lt, ◌&&◌, List, [], length, slice_index_or, Some, None, Result, Ok, Err}
 use Rattle.std.specs.List.{list_any, range_with_len}
 use Rattle.std.specs.Map.{update}
 use Rattle.composite_spec.specs.Said.{Composite}
 use Rattle.block_map.specs.Disk.{disk_bytes, begin_of, end_of, is_writable, Aliases, NoAliasBelow}
-use Rattle.host_traits.specs.Held.{Held, Disk, File}
+use Rattle.host_traits.specs.Held.{Held, Disk}
 use Rattle.block_map.specs.declared.map.MapFault.TheVariants as map_faults
 use Rattle.host_mem.specs.declared.fault.CompositeFault.{CompositeFault}
 use Rattle.host_mem.specs.declared.fault.CompositeFault.TheVariants.{Map, Memory}

@@ -1,21 +1,16 @@
 -- What a host in memory is, what it tells, and when it fails.
-use Rattle.std.specs.Prelude.{◌≡◌, ◌+◌, ◌-◌, ◌*◌, ◌/◌, ◌%◌, ◌<◌, ◌≤◌, ◌^◌, nat_le, nat_lt, length, cond, not, ◌||◌, Bool, true, false, ℕ, nat_eq, if◌then◌else◌, List, [], ◌∷◌, map, replicate, slice_index, take, drop, unwrap_or, IsSome, Option, Some, None, Result, Ok, Err, ◌⊎◌}
+use Rattle.std.specs.Prelude.{◌≡◌, ◌+◌, ◌*◌, ◌<◌, ◌^◌, nat_le, length, not, ◌||◌, Bool, true, false, ℕ, nat_eq, List, [], ◌∷◌, Option, Some, None, Result, Ok, Err, ◌⊎◌}
 use Rattle.std.specs.Option.{option_map}
-use Rattle.std.specs.declared.cmp.Ordering.{Ordering}
-use Rattle.std.specs.Ordering.{nat_cmp, ordering_then}
-use Rattle.std.specs.BTreeMap.{is_at}
-use Rattle.std.specs.Map.{lookup}
-use Rattle.std.specs.List.{list_any, range_with_len}
-use Rattle.std.specs.Cmp.Lexicographic.{pointwise}
+use Rattle.std.specs.List.{list_any}
 use Rattle.composite_spec.specs.Said.{Composite, IsComposite}
 use Rattle.host_traits.specs.declared.calls.Call.{Call}
 use Rattle.host_traits.specs.declared.calls.Said.{Said}
 use Rattle.host_traits.specs.declared.host.HostError.{HostError}
 use Rattle.host_traits.specs.declared.host.HostError.TheVariants.{Failed, Memory}
-use Rattle.host_traits.specs.Held.{Held, File, Disk, name_with, serve}
+use Rattle.host_traits.specs.Held.{Held, Disk, name_with, serve}
 use Rattle.host_traits.specs.Mem.{one_more}
 use Rattle.host_traits.specs.Told.{Told}
-use Rattle.mem_files.specs.Files.{Entries, at, FileData, file_of, NameList, has_name}
+use Rattle.mem_files.specs.Files.{Entries, at, Puts, FileData, file_of, NameList, has_name}
 use Rattle.host_mem.specs.Made.{plain_disk, composite_disk}
 
 -- ---- disks

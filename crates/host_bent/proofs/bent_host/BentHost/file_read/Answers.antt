@@ -8,4 +8,4 @@ pub returns-clause-asked : goal.returns-clause-asked
 returns-clause-asked c = rw (← c.self.view_is) (tells _ _ _ _ _ _ c.bytes.ensures.small c.bytes.ensures.ended)
 
 pub returns-clause-bent : goal.returns-clause-bent
-returns-clause-bent c = rw (← c.self.view_is) (is_bent _ _ _ _ _ _ _ _ _ _ _ c.file_read-own.ensures.asked c.bytes.ensures.bent c.bytes.ensures.ended)
+returns-clause-bent c = rw (← c.self.view_is) (is_bent _ _ _ _ _ _ _ _ _ _ _ c.file_read-own.ensures.asked c.file_read-own.ensures.fails c.file_read-own.ensures.counts c.bytes.ensures.bent c.bytes.ensures.ended)
