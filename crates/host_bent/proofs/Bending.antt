@@ -1,5 +1,5 @@
 -- What a bent host tells of a call.
-use Rattle.std.proofs.Common.{◌≡◌, ◌+◌, ◌-◌, ◌^◌, ◌<◌, ◌≤◌, min, ℕ, Bool, true, false, List, refl, sym, ap, subst, inl, inr, arith, Option, Some, None}
+use Rattle.std.proofs.Common.{◌≡◌, ◌^◌, ◌<◌, ℕ, true, List, refl, sym, subst, inl, inr, arith, Option, Some, None}
 use Rattle.std.specs.Prelude.{Result, Ok, Err}
 use Rattle.std.proofs.lemmas.Bool.{false≢true}
 use Rattle.host_traits.specs.declared.calls.Call.{Call}
@@ -11,7 +11,7 @@ use Rattle.host_traits.proofs.Talking.{asked_one, unheard}
 use Rattle.host_bent.specs.declared.bends.Bend.{Bend}
 use Rattle.host_bent.specs.declared.bends.Bend.TheVariants.{Fail, Number, Bytes, Flip}
 use Rattle.host_mem.specs.Mem.{Mem, mem_told, FailsBy, IsNumbered}
-use Rattle.host_bent.specs.Bent.{BendCount, BentMem, IsBent, bend_at, bent_by, count_told, ended, is_flip, said_as}
+use Rattle.host_bent.specs.Bent.{BendCount, IsBent, bend_at, bent_by, count_told, ended, is_flip, said_as}
 
 -- an answer in the words of all calls
 asked_as : {T : Type 0} (call : Call) (given : List ℕ) (said : T → Said) (r : Result T HostError) (old new : Told) → Asked call given said r old new → Asked call given (λ s. s) (said_as said r) old new

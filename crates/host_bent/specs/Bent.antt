@@ -1,5 +1,5 @@
 -- A host in memory whose answers are bent.
-use Rattle.std.specs.Prelude.{◌≡◌, ◌+◌, ℕ, nat_eq, if◌then◌else◌, List, [], ◌∷◌, length, take, slice_index, slice_set, vec_capacity, ◌≤◌, bit_xor, ◌⊎◌, Option, Some, None, Result, Ok, Err, Bool, false, true}
+use Rattle.std.specs.Prelude.{◌≡◌, ℕ, nat_eq, if◌then◌else◌, List, [], ◌∷◌, take, slice_index, slice_set, vec_capacity, ◌≤◌, bit_xor, ◌⊎◌, Option, Some, None, Result, Ok, Err, Bool, false, true}
 use Rattle.std.specs.Global.{Vec}
 use Rattle.host_traits.specs.declared.calls.Call.{Call}
 use Rattle.host_traits.specs.declared.calls.Said.{Said}
