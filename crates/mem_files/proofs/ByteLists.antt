@@ -97,22 +97,6 @@ resized-length old size = front-length old size
 pub resized-get : (old : List ℕ) (size i : ℕ) → i < size → get_or (resized old size) i 0 ≡ get_or old i 0
 resized-get old size i lt = front-get old size i lt
 
--- so many bytes more of a list
-pub over_front : (bytes : List ℕ) (done end : ℕ) → done ≤ end → end ≤ length bytes → over (take done bytes) done (take (end - done) (drop done bytes)) ≡ take end bytes
-over_front bytes done end le fits =
-    let piece : List ℕ = take (end - done) (drop done bytes) in
-    let len : length piece ≡ end - done = omega (arith, length-take (end - done) (drop done bytes), length-drop done bytes) in
-    let head : length (take done bytes) ≡ done = omega (arith, length-take done bytes) in
-    let whole : length (over (take done bytes) done piece) ≡ end = omega (arith, over-length (take done bytes) done piece) in
-    ext_get_or 0 (over (take done bytes) done piece) (take end bytes) (omega (arith, length-take end bytes)) (λ i lt.
-    over-get (take done bytes) done piece i ∙ elim (cases_lt i done) [
-      | inl low ↦ over_low done piece (λ k. get_or (take done bytes) k 0) i low ∙ get_or-take done bytes i 0 low ∙ sym (get_or-take end bytes i 0 (omega arith))
-      | inr high ↦
-          let place : done + (i - done) ≡ i = omega arith in
-          over_in done piece (λ k. get_or (take done bytes) k 0) i high (omega (arith, len, whole, lt)) ∙ get_or-take (end - done) (drop done bytes) (i - done) 0 (omega (arith, whole, lt)) ∙ get_or-drop done bytes (i - done) 0
-          ∙ ap (λ k. get_or bytes k 0) place ∙ sym (get_or-take end bytes i 0 (omega (arith, whole, lt)))
-    ])
-
 -- ---- bytes put into a list
 
 front_size : (at : ℕ) (xs : List ℕ) → at ≤ length xs → length (take at xs) ≡ at

@@ -185,33 +185,6 @@ piece_put old new number from page piece fits len there puts place =
           ]
     ]
 
--- a page with bytes and zeros behind them, where no byte was
-pub page_added : (old new : Entries (List ℕ)) (number : ℕ) (bytes : List ℕ) → length bytes ≤ 4096 → IsCutAt (4096 * number) old
-    → Puts old new number (bytes ++ replicate (4096 - length bytes) 0) → (place : ℕ) → byte_in new place ≡ byte_over (4096 * number) bytes (byte_in old) place
-page_added old new number bytes fits cut puts place =
-    let after : List ℕ = bytes ++ replicate (4096 - length bytes) 0 in
-    elim (cases_eq (place / 4096) number) [
-      | inr ne ↦ elim (beyond place number ne) [
-        | inl low ↦ others old new number after puts place ne ∙ sym (over_low (4096 * number) bytes (byte_in old) place low)
-        | inr high ↦ others old new number after puts place ne ∙ sym (over_high (4096 * number) bytes (byte_in old) place (omega arith))
-      ]
-      | inl is ↦
-          let put = this old new number after puts place is in
-          let split : place ≡ 4096 * number + place % 4096 = omega (arith, is) in
-          let low : 4096 * number ≤ place = omega (arith, split) in
-          elim (cases_lt (place % 4096) (length bytes)) [
-            | inl inside ↦
-                let at_is : place % 4096 ≡ place - 4096 * number = omega (arith, split) in
-                put ∙ get_or_append_left bytes (replicate (4096 - length bytes) 0) 0 (place % 4096) inside ∙ ap (λ k. get_or bytes k 0) at_is
-                ∙ sym (over_in (4096 * number) bytes (byte_in old) place low (omega (arith, split)))
-            | inr past ↦
-                let rest : place % 4096 < 4096 = omega arith in
-                put ∙ get_or-append_right bytes (replicate (4096 - length bytes) 0) (length bytes) (place % 4096) 0 refl past
-                ∙ get_or-replicate (4096 - length bytes) (place % 4096 - length bytes) 0 0 (omega arith) ∙ sym (cut place low)
-                ∙ sym (over_high (4096 * number) bytes (byte_in old) place (omega (arith, split)))
-          ]
-    ]
-
 -- a page that ends with zeros
 pub page_cleared : (old new : Entries (List ℕ)) (number from : ℕ) (page : List ℕ) → from ≤ 4096 → length page ≡ 4096 → at old number ≡ Some page
     → Puts old new number (take from page ++ replicate (4096 - from) 0) → (place : ℕ)

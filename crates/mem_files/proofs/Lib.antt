@@ -3,3 +3,4 @@ pub mod ByteLists
 pub mod Kept
 pub mod TreeKeys
 pub mod Trees
+pub mod Parts

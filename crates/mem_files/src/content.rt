@@ -1,7 +1,6 @@
-// The bytes of a file: whole as they came, and from the first change on as pages.
-ghost use Rattle.std.specs.Prelude.{◌≡◌, ◌≤◌, ◌+◌, ◌^◌, List, ℕ, [], length, take, drop, OnOk, OnErr, IfOk};
+// The bytes of a file: those that came with it, and behind them the pages that were written.
+ghost use Rattle.std.specs.Prelude.{◌≡◌, ◌≤◌, ◌+◌, ◌-◌, ◌^◌, List, ℕ, [], length, take, drop, ◌++◌, OnOk, OnErr, IfOk};
 ghost use Rattle.host_traits.specs.Held.{over, resized};
-ghost use Rattle.mem_files.specs.Stores.{form_bytes};
 
 use crate::sparse::Sparse;
 use host_traits::Raw;
@@ -9,41 +8,47 @@ use mg_base::Memory;
 use std::alloc::Global;
 use std::marker::Model;
 
-/// How the bytes of a file are kept.
-#[derive(Drop)]
-enum Form {
-    /// As they came.
-    Whole(Vec<u8>),
-    /// As the pages that were written.
-    Paged(Sparse),
-}
-
-/// The bytes of a file. Contracts see the list of them.
+/// The bytes of a file: those that came with it, as they came, and behind them the pages that were
+/// written. Contracts see the list of them all.
 #[derive(Drop)]
 pub(crate) struct Content {
-    form: Form,
+    front: Vec<u8>,
+    back: Sparse,
 }
 
 impl Model for Content {
-    ghost use Rattle.std.specs.Prelude.{ℕ, List};
-    ghost use Rattle.mem_files.specs.Stores.{form_bytes, IsForm};
+    ghost use Rattle.std.specs.Prelude.{ℕ, List, ◌++◌, ◌+◌, length, ◌<◌, ◌^◌};
 
     ghost Value = { List ℕ };
 
-    ghost view = { λ c. form_bytes c.form };
+    ghost view = { λ c. c.front.items ++ c.back };
 
-    ghost invariant = { λ c. IsForm c.form };
+    ghost invariant = { λ c. length c.front.items + length c.back < 2 ^ 64 };
 }
 
-// Reads of bytes from a place on, cut at the end.
-fn read_whole(bytes: &[u8], at: u64, want: u32, raw: &mut Raw)
-    requires { want ≤ 69632 }
-    ensures { raw.new ≡ take want (drop at bytes.now) }
+// Fills a slice with the bytes from a place on of those in front and those behind.
+fn fill(front: &[u8], back: &Sparse, at: u64, out: &mut [u8])
+    requires { at + length out.old ≤ length (front.now ++ back.now) }
+    ensures { out.new ≡ take (length out.old) (drop at (front.now ++ back.now)) }
 {
-    let size = bytes.len();
-    let from = at.min(size as u64) as usize;
-    let to = from + (want as usize).min(size - from);
-    raw.put(&bytes[from..to]);
+    let whole = front.len();
+    let from = at.min(whole as u64) as usize;
+    let cut = out.len().min(whole - from);
+    let (head, tail) = out.split_at_mut(cut);
+    head.copy_from_slice(&front[from..from + cut]);
+    back.fill(at.saturating_sub(whole as u64), tail);
+}
+
+// Puts bytes over others.
+fn overwrite(bytes: &mut Vec<u8>, at: usize, piece: &[u8])
+    requires { at + length piece.now ≤ length bytes.old.items }
+    ensures put { bytes.new.items
+        ≡ take at bytes.old.items ++ piece.now ++ drop (at + length piece.now) bytes.old.items }
+    ensures len { length bytes.new.items ≡ length bytes.old.items }
+{
+    let end = at + piece.len();
+    let all = bytes.as_mut_slice();
+    all[at..end].copy_from_slice(piece);
 }
 
 impl Content {
@@ -52,75 +57,78 @@ impl Content {
         ensures { result ≡ [] }
     {
         Content {
-            form: Form::Paged(Sparse::new(alloc)),
+            front: Vec::new(alloc),
+            back: Sparse::new(alloc),
         }
     }
 
     /// These bytes.
-    pub(crate) fn whole(bytes: Vec<u8>) -> Content
+    pub(crate) fn whole(alloc: Global, bytes: Vec<u8>) -> Content
         requires { length bytes.items ≤ 2 ^ 32 }
         ensures { result ≡ bytes.items }
     {
         Content {
-            form: Form::Whole(bytes),
+            front: bytes,
+            back: Sparse::new(alloc),
         }
     }
 
-    /// Reads from a place on, cut at the end.
-    pub(crate) fn read(
-        &self,
-        alloc: Global,
-        at: u64,
-        want: u32,
-        raw: &mut Raw,
-    ) -> Result<(), Memory>
-        requires { want ≤ 69632 }
-        ensures ok { OnOk result (raw.new ≡ take want (drop at self.now)) }
-        ensures err { OnErr result (raw.new ≡ raw.old) }
+    /// How many bytes there are.
+    fn len(&self) -> u64
+        ensures { result ≡ length self.now }
     {
-        match &self.form {
-            Form::Whole(bytes) => {
-                read_whole(bytes, at, want, raw);
-                Ok(())
-            }
-            Form::Paged(pages) => pages.read(alloc, at, want, raw),
-        }
+        self.front.len() as u64 + self.back.len()
     }
 
-    /// Puts bytes from a place on, with zeros between. After an error nothing changed.
+    // Fills a slice with the bytes from a place on.
+    fn fill(&self, at: u64, out: &mut [u8])
+        requires { at + length out.old ≤ length self.now }
+        ensures { out.new ≡ take (length out.old) (drop at self.now) }
+    {
+        fill(&self.front, &self.back, at, out);
+    }
+
+    /// Reads from a place on, cut at the end. It takes no memory.
+    pub(crate) fn read(&self, at: u64, want: u32, raw: &mut Raw)
+        requires { want ≤ 69632 }
+        ensures { raw.new ≡ take want (drop at self.now) }
+    {
+        let size = self.len();
+        let from = at.min(size);
+        let count = (want as u64).min(size - from);
+        self.fill(from, raw.room(count as usize));
+    }
+
+    /// Puts bytes from a place on, with zeros between. It takes memory only for bytes past those that
+    /// came. After an error nothing changed.
     pub(crate) fn write(&mut self, alloc: Global, at: u64, bytes: &[u8]) -> Result<(), Memory>
         requires most { length bytes.now ≤ 4096 }
         requires end { at + length bytes.now ≤ 2 ^ 32 }
         ensures ok { OnOk result (self.new ≡ over self.old at bytes.now) }
         ensures err { OnErr result (self.new ≡ self.old) }
     {
-        match &mut self.form {
-            Form::Paged(pages) => pages.write(alloc, at, bytes),
-            Form::Whole(all) => {
-                let mut pages = Sparse::from_slice(alloc, all)?;
-                pages.write(alloc, at, bytes)?;
-                self.form = Form::Paged(pages);
-                Ok(())
-            }
+        let whole = self.front.len() as u64;
+        let from = at.min(whole) as usize;
+        let cut = bytes.len().min(self.front.len() - from);
+        match self
+            .back
+            .write(alloc, at.saturating_sub(whole), &bytes[cut..])
+        {
+            Ok(()) => {}
+            Err(_) => return Err(Memory),
         }
+        overwrite(&mut self.front, from, &bytes[..cut]);
+        Ok(())
     }
 
-    /// Cuts the bytes, or adds zeros. It takes memory only where they are still as they came. After an error nothing changed.
-    pub(crate) fn resize(&mut self, alloc: Global, size: u64) -> Result<(), Memory>
-        ensures ok { OnOk result (self.new ≡ resized self.old size) }
-        ensures err { OnErr result (self.new ≡ self.old) }
+    /// Cuts the bytes, or adds zeros. It takes no memory.
+    pub(crate) fn resize(&mut self, size: u64)
+        ensures { self.new ≡ resized self.old size }
     {
-        match &mut self.form {
-            Form::Paged(pages) => {
-                pages.resize(size);
-                Ok(())
-            }
-            Form::Whole(all) => {
-                let mut pages = Sparse::from_slice(alloc, all)?;
-                pages.resize(size);
-                self.form = Form::Paged(pages);
-                Ok(())
-            }
+        let whole = self.front.len() as u64;
+        self.back.resize(size.saturating_sub(whole));
+        if size < whole {
+            self.front.truncate(size as usize);
         }
     }
 
@@ -128,12 +136,12 @@ impl Content {
     pub(crate) fn to_vec(&self, alloc: Global) -> Result<Vec<u8>, Memory>
         ensures { IfOk result (λ v. v.items ≡ self.now) }
     {
-        match &self.form {
-            Form::Whole(bytes) => match Vec::from_slice(alloc, bytes) {
-                Ok(copy) => Ok(copy),
-                Err(_) => Err(Memory),
-            },
-            Form::Paged(pages) => pages.to_vec(alloc),
-        }
+        let size = self.len();
+        let mut out = match vec![in alloc; 0u8; size as usize] {
+            Ok(out) => out,
+            Err(_) => return Err(Memory),
+        };
+        self.fill(0, out.as_mut_slice());
+        Ok(out)
     }
 }

@@ -50,18 +50,11 @@ impl MemFile {
     }
 
     /// Reads from a place on, cut at the end.
-    pub fn read(
-        &self,
-        alloc: Global,
-        at: u64,
-        want: u32,
-        raw: &mut Raw,
-    ) -> Result<(), Memory>
+    pub fn read(&self, at: u64, want: u32, raw: &mut Raw)
         requires { want ≤ 69632 }
-        ensures ok { OnOk result (raw.new ≡ take want (drop at self.now.bytes)) }
-        ensures err { OnErr result (raw.new ≡ raw.old) }
+        ensures { raw.new ≡ take want (drop at self.now.bytes) }
     {
-        self.content.read(alloc, at, want, raw)
+        self.content.read(at, want, raw);
     }
 
     /// All the bytes.
@@ -83,7 +76,8 @@ impl MemFile {
     pub fn write(&mut self, alloc: Global, at: u64, bytes: &[u8]) -> Result<(), Memory>
         requires most { length bytes.now ≤ 4096 }
         requires end { at + length bytes.now ≤ 2 ^ 32 }
-        ensures ok { OnOk result (self.new ≡ record self.old { bytes = over self.old.bytes at bytes.now }) }
+        ensures ok { OnOk result
+            (self.new ≡ record self.old { bytes = over self.old.bytes at bytes.now }) }
         ensures err { OnErr result (self.new ≡ self.old) }
     {
         match self.content.write(alloc, at, bytes) {
@@ -93,16 +87,11 @@ impl MemFile {
         Ok(())
     }
 
-    /// Cuts the bytes, or adds zeros.
-    pub fn resize(&mut self, alloc: Global, size: u64) -> Result<(), Memory>
-        ensures ok { OnOk result (self.new ≡ record self.old { bytes = resized self.old.bytes size }) }
-        ensures err { OnErr result (self.new ≡ self.old) }
+    /// Cuts the bytes, or adds zeros. It takes no memory.
+    pub fn resize(&mut self, size: u64)
+        ensures { self.new ≡ record self.old { bytes = resized self.old.bytes size } }
     {
-        match self.content.resize(alloc, size) {
-            Ok(()) => {}
-            Err(_) => return Err(Memory),
-        }
-        Ok(())
+        self.content.resize(size);
     }
 
     /// Reads a tree page; one that isn't there is zeros.
@@ -122,7 +111,9 @@ impl MemFile {
         bytes: &[u8],
     ) -> Result<(), Memory>
         requires { length bytes.now ≡ 4096 }
-        ensures tree { OnOk result ((l i : ℕ) → page_in self.new.pages l i ≡ tree_with (page_in self.old.pages) level index bytes.now l i) }
+        ensures tree { OnOk result
+            ((l i : ℕ) → page_in self.new.pages l i
+            ≡ tree_with (page_in self.old.pages) level index bytes.now l i) }
         ensures bytes { self.new.bytes ≡ self.old.bytes }
         ensures descriptor { self.new.descriptor ≡ self.old.descriptor }
         ensures err { OnErr result (self.new ≡ self.old) }

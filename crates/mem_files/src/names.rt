@@ -42,7 +42,9 @@ impl Names {
 
     /// Adds a name.
     pub fn add(&mut self, alloc: Global, name: &[u8]) -> Result<(), Memory>
-        ensures ok { OnOk result ((other : List ℕ) → has_name self.new other ≡ name_with (has_name self.old) name.now true other) }
+        ensures ok { OnOk result
+            ((other : List ℕ) → has_name self.new other
+            ≡ name_with (has_name self.old) name.now true other) }
         ensures err { OnErr result (self.new ≡ self.old) }
     {
         let key = match Vec::from_slice(alloc, name) {
@@ -58,7 +60,8 @@ impl Names {
 
     /// Takes a name away. It takes no memory.
     pub fn remove(&mut self, name: &[u8])
-        ensures { (other : List ℕ) → has_name self.new other ≡ name_with (has_name self.old) name.now false other }
+        ensures { (other : List ℕ) → has_name self.new other
+            ≡ name_with (has_name self.old) name.now false other }
     {
         let _ = self.names.remove(name);
     }

@@ -2,7 +2,7 @@
 ghost use Rattle.std.specs.Prelude.{◌≡◌, ◌≤◌, ◌<◌, ◌+◌, ◌-◌, ◌*◌, ◌/◌, ◌%◌, ◌^◌, ◌||◌, List, ℕ, [], length, take, drop, ◌++◌, nat_lt, nat_le, slice_index, if◌then◌else◌, OnOk, OnErr, IfOk, IsSome, MatchBool, None};
 ghost use Rattle.mem_files.specs.Files.{at, byte_in, byte_over, bytes_in, IsCutAt, Reaches};
 
-use mg_base::{Memory, Page, pad_into};
+use mg_base::{Memory, Page};
 use std::alloc::Global;
 use std::collections::BTreeMap;
 
@@ -13,7 +13,8 @@ const ZEROS: [u8; 4096] = [0; 4096];
 
 // The bytes of a page, which are zeros where there is none.
 fn page_of(pages: &BTreeMap<u64, Page>, page: u64) -> &[u8]
-    ensures bytes { (k : ℕ) → k < 4096 → slice_index result.now k ≡ byte_in pages.now.entries (4096 * page + k) }
+    ensures bytes { (k : ℕ) → k < 4096 → slice_index result.now k
+        ≡ byte_in pages.now.entries (4096 * page + k) }
     ensures len { length result.now ≡ 4096 }
 {
     match pages.get(&page) {
@@ -32,27 +33,28 @@ pub(crate) fn piece_of(pages: &BTreeMap<u64, Page>, at: u64, count: usize) -> &[
     &bytes[from..from + count]
 }
 
-/// Adds so many bytes from a place on to those in `out`.
-pub(crate) fn append(
-    pages: &BTreeMap<u64, Page>,
-    at: u64,
-    count: u64,
-    out: &mut Vec<u8>,
-) -> Result<(), Memory>
-    requires { at + count < 2 ^ 64 }
-    ensures { OnOk result (out.new.items ≡ out.old.items ++ bytes_in pages.now.entries at count) }
+// Puts bytes over others.
+fn put(out: &mut [u8], at: usize, piece: &[u8])
+    requires { at + length piece.now ≤ length out.old }
+    ensures { out.new ≡ take at out.old ++ piece.now ++ drop (at + length piece.now) out.old }
 {
+    let end = at + piece.len();
+    out[at..end].copy_from_slice(piece);
+}
+
+/// Fills a slice with the bytes from a place on.
+pub(crate) fn fill(pages: &BTreeMap<u64, Page>, at: u64, out: &mut [u8])
+    requires { at + length out.old < 2 ^ 64 }
+    ensures { out.new ≡ bytes_in pages.now.entries at (length out.old) }
+{
+    let count = out.len();
     let mut done = 0;
     'pieces: while done < count {
-        let place = at + done;
-        let len = (PAGE - place % PAGE).min(count - done);
-        match out.extend_from_slice(piece_of(pages, place, len as usize)) {
-            Ok(()) => {}
-            Err(_) => return Err(Memory),
-        }
+        let place = at + done as u64;
+        let len = ((PAGE - place % PAGE) as usize).min(count - done);
+        put(out, done, piece_of(pages, place, len));
         done += len;
     }
-    Ok(())
 }
 
 // Takes the page that a piece of bytes is to be put into, where there is such a piece.
@@ -85,7 +87,8 @@ fn put_piece(pages: &mut BTreeMap<u64, Page>, page: u64, from: usize, piece: &[u
     requires fits { from + length piece.now ≤ 4096 }
     requires there { 0 < length piece.now → IsSome (at pages.old.entries page) }
     ensures keeps { (q : ℕ) → IsSome (at pages.old.entries q) → IsSome (at pages.new.entries q) }
-    ensures put { (place : ℕ) → byte_in pages.new.entries place ≡ byte_over (4096 * page + from) piece.now (byte_in pages.old.entries) place }
+    ensures put { (place : ℕ) → byte_in pages.new.entries place
+        ≡ byte_over (4096 * page + from) piece.now (byte_in pages.old.entries) place }
 {
     match pages.get_mut(&page) {
         Some(kept) => kept.put(from, piece),
@@ -102,8 +105,11 @@ pub(crate) fn overwrite(
 ) -> Result<(), Memory>
     requires most { length bytes.now ≤ 4096 }
     requires end { at + length bytes.now ≤ 2 ^ 32 }
-    ensures ok { OnOk result ((place : ℕ) → byte_in pages.new.entries place ≡ byte_over at bytes.now (byte_in pages.old.entries) place) }
-    ensures err { OnErr result ((place : ℕ) → byte_in pages.new.entries place ≡ byte_in pages.old.entries place) }
+    ensures ok { OnOk result
+        ((place : ℕ) → byte_in pages.new.entries place
+        ≡ byte_over at bytes.now (byte_in pages.old.entries) place) }
+    ensures err { OnErr result
+        ((place : ℕ) → byte_in pages.new.entries place ≡ byte_in pages.old.entries place) }
 {
     let page = at / PAGE;
     let from = (at % PAGE) as usize;
@@ -123,33 +129,10 @@ pub(crate) fn overwrite(
     Ok(())
 }
 
-/// Adds a page of these bytes, with zeros behind them, where no byte was.
-pub(crate) fn add_page(
-    alloc: Global,
-    pages: &mut BTreeMap<u64, Page>,
-    page: u64,
-    bytes: &[u8],
-) -> Result<(), Memory>
-    requires most { length bytes.now ≤ 4096 }
-    requires behind { IsCutAt (4096 * page) pages.old.entries }
-    ensures ok { OnOk result ((place : ℕ) → byte_in pages.new.entries place ≡ byte_over (4096 * page) bytes.now (byte_in pages.old.entries) place) }
-    ensures err { OnErr result (pages.new.entries ≡ pages.old.entries) }
-{
-    let mut added = match Page::new(alloc) {
-        Ok(added) => added,
-        Err(_) => return Err(Memory),
-    };
-    pad_into(bytes, &mut added);
-    match pages.insert(page, added) {
-        Ok(_) => {}
-        Err(_) => return Err(Memory),
-    }
-    Ok(())
-}
-
 // Is there a page of this number or above?
 fn reaches(pages: &BTreeMap<u64, Page>, limit: u64) -> bool
-    ensures { MatchBool result (Reaches pages.now.entries limit) ((q : ℕ) → limit ≤ q → at pages.now.entries q ≡ None) }
+    ensures { MatchBool result (Reaches pages.now.entries limit)
+        ((q : ℕ) → limit ≤ q → at pages.now.entries q ≡ None) }
 {
     match pages.last_key_value() {
         Some((last, _)) => *last >= limit,
@@ -159,7 +142,8 @@ fn reaches(pages: &BTreeMap<u64, Page>, limit: u64) -> bool
 
 // Drops the pages from this number on.
 fn drop_from(pages: &mut BTreeMap<u64, Page>, limit: u64)
-    ensures { (q : ℕ) → at pages.new.entries q ≡ (if nat_lt q limit then at pages.old.entries q else None) }
+    ensures { (q : ℕ) → at pages.new.entries q
+        ≡ (if nat_lt q limit then at pages.old.entries q else None) }
 {
     'pages: while reaches(pages, limit) {
         let _ = pages.pop_last();
@@ -169,7 +153,9 @@ fn drop_from(pages: &mut BTreeMap<u64, Page>, limit: u64)
 // Puts zeros into a page from a place on.
 fn clear_rest(pages: &mut BTreeMap<u64, Page>, page: u64, from: usize)
     requires { from ≤ 4096 }
-    ensures { (place : ℕ) → byte_in pages.new.entries place ≡ (if nat_lt place (4096 * page + from) || nat_le (4096 * page + 4096) place then byte_in pages.old.entries place else 0) }
+    ensures { (place : ℕ) → byte_in pages.new.entries place
+        ≡ (if nat_lt place (4096 * page + from) || nat_le (4096 * page + 4096) place then byte_in
+        pages.old.entries place else 0) }
 {
     match pages.get_mut(&page) {
         Some(kept) => kept.clear_from(from),
@@ -179,7 +165,8 @@ fn clear_rest(pages: &mut BTreeMap<u64, Page>, page: u64, from: usize)
 
 /// Makes each byte past the size zero. It takes no memory.
 pub(crate) fn cut(pages: &mut BTreeMap<u64, Page>, size: u64)
-    ensures { (place : ℕ) → byte_in pages.new.entries place ≡ (if nat_lt place size then byte_in pages.old.entries place else 0) }
+    ensures { (place : ℕ) → byte_in pages.new.entries place
+        ≡ (if nat_lt place size then byte_in pages.old.entries place else 0) }
 {
     let from = size % PAGE;
     let whole = size / PAGE;

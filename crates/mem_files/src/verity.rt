@@ -23,7 +23,10 @@ fn put_level(
     requires len { length stored.now ≡ 4096 * tree_pages geometry.now }
     requires low { 1 ≤ level }
     requires high { level ≤ top geometry.now }
-    ensures { OnOk result ((l i : ℕ) → page_in tree.new l i ≡ (if nat_eq level l && nat_lt i (pages_at geometry.now level) then stored_page geometry.now stored.now l i else page_in tree.old l i)) }
+    ensures { OnOk result
+        ((l i : ℕ) → page_in tree.new l i
+        ≡ (if nat_eq level l && nat_lt i (pages_at geometry.now level) then stored_page geometry.now
+        stored.now l i else page_in tree.old l i)) }
 {
     let count = geometry.pages(level);
     'pages: for index in 0..count {
@@ -36,7 +39,10 @@ fn put_level(
 // The tree pages of a stored tree.
 fn tree_of(alloc: Global, stored: &[u8], geometry: &Geometry) -> Result<TreePages, Memory>
     requires { length stored.now ≡ 4096 * tree_pages geometry.now }
-    ensures { IfOk result (λ tree. (l i : ℕ) → page_in tree l i ≡ (if is_tree_page geometry.now l i then stored_page geometry.now stored.now l i else replicate 4096 0)) }
+    ensures { IfOk result
+        (λ tree. (l i : ℕ) → page_in tree l i
+        ≡ (if is_tree_page geometry.now l i then stored_page geometry.now stored.now l i else
+        replicate 4096 0)) }
 {
     let mut tree = TreePages::new(alloc);
     let top = geometry.top();
@@ -65,5 +71,5 @@ pub fn verity(alloc: Global, bytes: Vec<u8>, salt: Salt) -> Result<MemFile, Memo
         salt,
     });
     let descriptor = Vec::from_slice(alloc, &descriptor)?;
-    Ok(MemFile::with(Content::whole(bytes), descriptor, tree))
+    Ok(MemFile::with(Content::whole(alloc, bytes), descriptor, tree))
 }

@@ -6,4 +6,4 @@ pub returns-clause-ok : goal.returns-clause-ok
 returns-clause-ok c = λ l i.
     let page : c.put.new.self ≡ c.args.bytes.now = c.put.ensures.value ∙ page_put c.in-Ok.page c.args.bytes.now c.requires c.put.ensures.len in
     let u = c.in-Ok-insert.ensures.updates in
-    rw (← c.self.view_is) (tree_put c.self.inside.pages.entries c.insert.new.self.entries c.args.level c.args.index c.put.new.self c.args.bytes.now page u.0 l i)
+    rw (← c.self.view_is, ← c.if-replace.ensures.none) (tree_put c.replace.new.pages.entries c.insert.new.self.entries c.args.level c.args.index c.put.new.self c.args.bytes.now page u.0 l i)

@@ -1,11 +1,11 @@
-use Rattle.std.proofs.Common.{◌≡◌, ◌≤◌, ◌-◌, ◌++◌}
+use Rattle.std.proofs.Common.{◌≡◌, ◌≤◌, ◌-◌, ◌++◌, drop}
 use Rattle.mem_files.specs.Files.{bytes_in}
-use Rattle.mem_files.proofs.page_map.append.Given as goal
+use Rattle.mem_files.proofs.page_map.fill.Given as goal
 
 abbrev pub invariant-pieces : goal.invariant-pieces
 invariant-pieces l = record {
   few : l.done ≤ l.count;
-  added : l.out.items ≡ l.initial.out.items ++ bytes_in l.pages.entries l.at l.done;
+  filled : l.out ≡ bytes_in l.pages.entries l.at l.done ++ drop l.done l.initial.out;
 }
 
 abbrev pub decreases-pieces : goal.decreases-pieces
