@@ -31,9 +31,11 @@ impl Model for Bent {
 impl Bent {
     /// This host, with the answers to the calls of these numbers bent. It takes no memory.
     pub fn new(host: MemHost, bends: Vec<(u64, Bend)>) -> Bent
-        ensures { result ≡ record
-            { host = host; count = record
-            { bends = bends.items; calls = 0; faults = 0; last_failed = None } } }
+        ensures { result ≡ record {
+          host = host;
+          count = record
+              { bends = bends.items; calls = 0; faults = 0; last_failed = None };
+        } }
     {
         Bent {
             host,

@@ -5,7 +5,12 @@ use anyhow::{Result, bail, ensure};
 use host_traits::{Host, Raw};
 use std::alloc::Global;
 
-fn block_read<H: Host>(alloc: Global, host: &mut H, raw: &mut Raw, words: &[&str]) -> Result<String> {
+fn block_read<H: Host>(
+    alloc: Global,
+    host: &mut H,
+    raw: &mut Raw,
+    words: &[&str],
+) -> Result<String> {
     let count = small(words, 3)?;
     ensure!(count <= 136, "at most 136 sectors");
     let answer = host.block_read(small(words, 1)?, number(words, 2)?, count, raw);
@@ -14,24 +19,42 @@ fn block_read<H: Host>(alloc: Global, host: &mut H, raw: &mut Raw, words: &[&str
 
 fn block_write<H: Host>(alloc: Global, host: &mut H, words: &[&str]) -> Result<String> {
     let piece = bytes(alloc, words, 3)?;
-    ensure!(piece.len() % 512 == 0 && piece.len() <= 69_632, "at most 136 whole sectors");
+    ensure!(
+        piece.len() % 512 == 0 && piece.len() <= 69_632,
+        "at most 136 whole sectors"
+    );
     let answer = host.block_write(small(words, 1)?, number(words, 2)?, piece.as_slice());
     shown::done(alloc, answer)
 }
 
-fn file_read<H: Host>(alloc: Global, host: &mut H, raw: &mut Raw, words: &[&str]) -> Result<String> {
+fn file_read<H: Host>(
+    alloc: Global,
+    host: &mut H,
+    raw: &mut Raw,
+    words: &[&str],
+) -> Result<String> {
     let want = small(words, 3)?;
     ensure!(want <= 69_632, "at most 69632 bytes");
     let answer = host.file_read(small(words, 1)?, number(words, 2)?, want, raw);
     shown::heard(alloc, answer, raw)
 }
 
-fn tree_read<H: Host>(alloc: Global, host: &mut H, raw: &mut Raw, words: &[&str]) -> Result<String> {
+fn tree_read<H: Host>(
+    alloc: Global,
+    host: &mut H,
+    raw: &mut Raw,
+    words: &[&str],
+) -> Result<String> {
     let answer = host.file_tree_read(small(words, 1)?, small(words, 2)?, number(words, 3)?, raw);
     shown::heard(alloc, answer, raw)
 }
 
-fn descriptor<H: Host>(alloc: Global, host: &mut H, raw: &mut Raw, words: &[&str]) -> Result<String> {
+fn descriptor<H: Host>(
+    alloc: Global,
+    host: &mut H,
+    raw: &mut Raw,
+    words: &[&str],
+) -> Result<String> {
     let answer = host.file_descriptor(small(words, 1)?, raw);
     shown::heard(alloc, answer, raw)
 }
@@ -49,8 +72,12 @@ fn file_write<H: Host>(alloc: Global, host: &mut H, words: &[&str]) -> Result<St
 fn tree_write<H: Host>(alloc: Global, host: &mut H, words: &[&str]) -> Result<String> {
     let page = bytes(alloc, words, 4)?;
     ensure!(page.len() == 4096, "a page has 4096 bytes");
-    let answer =
-        host.file_tree_write(small(words, 1)?, small(words, 2)?, number(words, 3)?, page.as_slice());
+    let answer = host.file_tree_write(
+        small(words, 1)?,
+        small(words, 2)?,
+        number(words, 3)?,
+        page.as_slice(),
+    );
     shown::done(alloc, answer)
 }
 
@@ -85,7 +112,12 @@ fn counts<H: Host>(alloc: Global, host: &H) -> Result<String> {
 }
 
 /// The answer of a host to a line.
-pub(crate) fn call<H: Host>(alloc: Global, host: &mut H, raw: &mut Raw, words: &[&str]) -> Result<String> {
+pub(crate) fn call<H: Host>(
+    alloc: Global,
+    host: &mut H,
+    raw: &mut Raw,
+    words: &[&str],
+) -> Result<String> {
     let name = word(words, 0)?;
     match name {
         "block_size" => shown::number(alloc, host.block_size(small(words, 1)?)),

@@ -28,7 +28,9 @@ fn bend_of(alloc: Global, kind: &str, value: &str) -> Result<Bend> {
         "fail" => Ok(Bend::Fail),
         "number" => Ok(Bend::Number(value.parse::<u64>()?)),
         "bytes" => Ok(Bend::Bytes(bytes_of(alloc, value)?)),
-        "flip" => Ok(Bend::Flip { byte: value.parse::<u64>()? }),
+        "flip" => Ok(Bend::Flip {
+            byte: value.parse::<u64>()?,
+        }),
         _ => bail!("no such bend: {kind}"),
     }
 }
@@ -129,7 +131,12 @@ impl Stage {
     }
 
     /// The answer to a line.
-    pub(crate) fn answer(&mut self, alloc: Global, raw: &mut Raw, words: &[&str]) -> Result<String> {
+    pub(crate) fn answer(
+        &mut self,
+        alloc: Global,
+        raw: &mut Raw,
+        words: &[&str],
+    ) -> Result<String> {
         let name = word(words, 0)?;
         match name {
             "memory" | "bent" | "recorder" => Ok(format!(in alloc; "{name}")?),

@@ -21,7 +21,8 @@ fn disk(alloc: Global, host: &mut MemHost, words: &[&str]) -> Result<String> {
     if host.has_disk(number) || held.len() % 512 != 0 {
         bail!("a new disk has a new number and whole sectors");
     }
-    host.add_disk(number, held).map_err(|_| anyhow!("out of memory"))?;
+    host.add_disk(number, held)
+        .map_err(|_| anyhow!("out of memory"))?;
     added(alloc)
 }
 
@@ -30,7 +31,8 @@ fn empty(alloc: Global, host: &mut MemHost, words: &[&str]) -> Result<String> {
     if host.has_number(number) {
         bail!("a new file has a new number");
     }
-    host.add_empty(number).map_err(|_| anyhow!("out of memory"))?;
+    host.add_empty(number)
+        .map_err(|_| anyhow!("out of memory"))?;
     added(alloc)
 }
 
@@ -52,7 +54,8 @@ fn verity(alloc: Global, host: &mut MemHost, words: &[&str]) -> Result<String> {
     if host.has_number(number) || held.len() as u64 > 4_294_967_296 {
         bail!("a new file has a new number and at most 2^32 bytes");
     }
-    host.add_verity(number, held, salt).map_err(|_| anyhow!("out of memory"))?;
+    host.add_verity(number, held, salt)
+        .map_err(|_| anyhow!("out of memory"))?;
     added(alloc)
 }
 
@@ -114,7 +117,8 @@ fn mapped(alloc: Global, host: &mut MemHost, words: &[&str]) -> Result<String> {
     if files.len() != map.components() || host.has_disk(number) {
         bail!("a new disk has a new number and a file for each component");
     }
-    host.add_map(number, map, files).map_err(|_| anyhow!("out of memory"))?;
+    host.add_map(number, map, files)
+        .map_err(|_| anyhow!("out of memory"))?;
     Ok(answer)
 }
 

@@ -13,7 +13,7 @@ pub filled_more : (b p o out : List ℕ) (done n : ℕ) → length b ≡ done �
 filled_more b p o out done n b_is p_is out_is =
     let front : take done out ≡ b = ap (take done) out_is ∙ ap (λ k. take k (b ++ drop done o)) (sym b_is) ∙ take-append_seam b (drop done o) in
     let rest : drop (done + length p) out ≡ drop (done + n) o =
-        ap (drop (done + length p)) out_is ∙ drop-append-drop done o b (done + length p) (omega arith) b_is ∙ ap (λ k. drop (done + k) o) p_is in
+    ap (drop (done + length p)) out_is ∙ drop-append-drop done o b (done + length p) (omega arith) b_is ∙ ap (λ k. drop (done + k) o) p_is in
     ap (λ z. z ++ p ++ drop (done + length p) out) front ∙ ap (λ z. b ++ p ++ z) rest
 
 -- the bytes with others put over them, of the same length
@@ -28,7 +28,7 @@ read_parts h t at n from cut fits from_is cut_is =
     let all = length-append h t in
     let a : length (take cut (drop from h)) ≡ cut = omega (arith, from_is, cut_is, length-take cut (drop from h), length-drop from h) in
     let b : length (take (n - cut) (drop (at - length h) t)) ≡ n - cut =
-        omega (arith, fits, all, from_is, cut_is, length-take (n - cut) (drop (at - length h) t), length-drop (at - length h) t) in
+    omega (arith, fits, all, from_is, cut_is, length-take (n - cut) (drop (at - length h) t), length-drop (at - length h) t) in
     let whole : length (take n (drop at (h ++ t))) ≡ n = omega (arith, fits, length-take n (drop at (h ++ t)), length-drop at (h ++ t)) in
     let both = length-append (take cut (drop from h)) (take (n - cut) (drop (at - length h) t)) in
     ext_get_or 0 (take cut (drop from h) ++ take (n - cut) (drop (at - length h) t)) (take n (drop at (h ++ t))) (omega (arith, a, b, whole, both, cut_is)) (λ i lt.

@@ -17,5 +17,5 @@ returns c =
     let rest : length c.split_at_mut-head.result.1.now ≡ n - cut = omega (arith, c.split_at_mut-head.ensures.back_len) in
     let head : c.copy_from_slice.new.self ≡ take cut (drop from h) = c.copy_from_slice.ensures.after ∙ ap (λ k. take k (drop from h)) piece in
     let tail : c.fill.new.out ≡ take (n - cut) (drop (at - length h) t) =
-        c.fill.ensures ∙ ap (λ k. take k (drop c.saturating_sub.result t)) rest ∙ ap (λ k. take (n - cut) (drop k t)) past in
+    c.fill.ensures ∙ ap (λ k. take k (drop c.saturating_sub.result t)) rest ∙ ap (λ k. take (n - cut) (drop k t)) past in
     ap (λ z. z ++ c.fill.new.out) head ∙ ap (λ z. take cut (drop from h) ++ z) tail ∙ read_parts h t at n from cut c.requires from_is cut_is

@@ -11,7 +11,7 @@ put-requires c =
     let done = c.pieces.done in
     let piece : length c.piece_of.result.now ≡ c.min-len.result = ap length c.piece_of.ensures ∙ bytes_in-length pages (c.args.at + done) c.min-len.result in
     let size : length c.pieces.out ≡ length c.args.out.now = ap length c.pieces.invariant.filled
-        ∙ omega (arith, c.pieces.invariant.few, length-append (bytes_in pages c.args.at done) (drop done c.args.out.now), bytes_in-length pages c.args.at done, length-drop done c.args.out.now) in
+    ∙ omega (arith, c.pieces.invariant.few, length-append (bytes_in pages c.args.at done) (drop done c.args.out.now), bytes_in-length pages c.args.at done, length-drop done c.args.out.now) in
     omega (arith, piece, size, c.min-len.ensures, c.pieces.invariant.few)
 
 pub pieces-preserved : goal.pieces-preserved

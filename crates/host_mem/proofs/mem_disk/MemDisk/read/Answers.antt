@@ -30,8 +30,8 @@ returns-in-Composite c =
     let held = contents c.deref-in-Composite.result.now in
     let same : held ≡ files = ap (λ (z : List (Vec ℕ)). contents z) c.deref-in-Composite.ensures.value in
     let filled : out ≡ take len (drop at (disk_of c.args.self.now).bytes) =
-        c.fill.ensures ∙ ap (λ k. take k (drop at (disk_bytes s held))) c.room.ensures.len ∙ ap (λ z. take len (drop at (disk_bytes s z))) same
-        ∙ ap (λ z. take len (drop at z)) (sym all) in
+    c.fill.ensures ∙ ap (λ k. take k (drop at (disk_bytes s held))) c.room.ensures.len ∙ ap (λ z. take len (drop at (disk_bytes s z))) same
+    ∙ ap (λ z. take len (drop at z)) (sym all) in
     let size : length out ≡ len =
-        ap length filled ∙ omega (arith, c.requires.inside, length-take len (drop at (disk_of c.args.self.now).bytes), length-drop at (disk_of c.args.self.now).bytes) in
+    ap length filled ∙ omega (arith, c.requires.inside, length-take len (drop at (disk_of c.args.self.now).bytes), length-drop at (disk_of c.args.self.now).bytes) in
     ap (λ k. take k (out ++ rest)) (sym size) ∙ take-append_seam out rest ∙ filled
