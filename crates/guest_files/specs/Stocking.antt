@@ -2,7 +2,8 @@
 use Rattle.std.specs.Prelude.{◌≡◌, ◌≢◌, ◌≤◌, ◌<◌, ◌+◌, ◌%◌, ◌^◌, ◌⊎◌, false, true, ℕ, List, [], ◌∷◌, ◌++◌, length, map, string_bytes, Option, Some, None, Result, Ok, Err}
 use Rattle.host_traits.specs.Folders.{Files}
 use Rattle.host_traits.specs.Held.{Held, empty_file, with_file, with_dir}
-use Rattle.host_mem.specs.Made.{nothing, with_disk, plain_disk, verity_file, composite_disk}
+use Rattle.mem_files.specs.FsVerity.{verity_file}
+use Rattle.host_mem.specs.Made.{nothing, with_disk, plain_disk, composite_disk}
 use Rattle.composite_spec.specs.declared.kinds.SpecFault.{SpecFault}
 use Rattle.composite_spec.specs.Said.{Composite}
 use Rattle.composite_spec.specs.Reading.{decoded}

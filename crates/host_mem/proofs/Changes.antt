@@ -11,7 +11,8 @@ use Rattle.host_traits.specs.declared.calls.Said.TheVariants.{Number, Bytes, Don
 use Rattle.host_traits.specs.Held.{File, Disk, serve, over, resized, tree_with, with_file, with_dir, name_with, is_there, is_free, all_writable}
 use Rattle.std.specs.Option.{option_map}
 use Rattle.host_mem.specs.Made.{with_disk}
-use Rattle.host_mem.specs.Mem.{Entries, DiskData, FileData, NameList, at, file_of, disk_of, has_name, names_have, held_of, covers, page_in, blank_file, may_make, Puts, Named}
+use Rattle.mem_files.specs.Files.{Entries, FileData, NameList, at, file_of, has_name, page_in, blank_file, Puts}
+use Rattle.host_mem.specs.Mem.{DiskData, disk_of, names_have, held_of, covers, may_make, Named}
 
 at_eq : (k q : ℕ) → is_at (nat_cmp k) q ≡ nat_eq k q
 at_eq k q = grind (arith, nat_tests)

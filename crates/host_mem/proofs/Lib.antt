@@ -1,10 +1,4 @@
-pub mod NameKeys
-pub mod ByteLists
-pub mod Kept
-pub mod TreeKeys
-pub mod Trees
 pub mod Components
 pub mod Composites
 pub mod Changes
 pub mod Serving
-pub mod Bending

@@ -1,12 +1,10 @@
 -- What is put into a host in memory.
-use Rattle.std.specs.Prelude.{◌+◌, ℕ, Bool, true, nat_eq, nat_le, nat_lt, ◌&&◌, if◌then◌else◌, List, [], length, replicate, slice_index_or, Some, None, Result, Ok, Err}
+use Rattle.std.specs.Prelude.{◌+◌, ℕ, Bool, true, nat_eq, nat_le, nat_lt, ◌&&◌, List, [], length, slice_index_or, Some, None, Result, Ok, Err}
 use Rattle.std.specs.List.{list_any, range_with_len}
 use Rattle.std.specs.Map.{update}
 use Rattle.composite_spec.specs.Said.{Composite}
 use Rattle.block_map.specs.Disk.{disk_bytes, begin_of, end_of, is_writable, Aliases, NoAliasBelow}
-use Rattle.sha_tree.specs.Tree.{block_count, pages_at, top, page, root}
-use Rattle.verity_descriptor.specs.Spelling.{descriptor_bytes}
-use Rattle.host_traits.specs.Held.{Held, Disk, File}
+use Rattle.host_traits.specs.Held.{Held, Disk}
 use Rattle.block_map.specs.declared.map.MapFault.TheVariants as map_faults
 use Rattle.host_mem.specs.declared.fault.CompositeFault.{CompositeFault}
 use Rattle.host_mem.specs.declared.fault.CompositeFault.TheVariants.{Map, Memory}
@@ -31,19 +29,6 @@ is_open s files place i =
 -- written and the byte lies within its file.
 unfoldable pub composite_disk : Composite → List (List ℕ) → Disk
 composite_disk s files = record { bytes = disk_bytes s files; writable = λ place. list_any (is_open s files place) (range_with_len 0 (length s.components)) }
-
--- is there a page of this level and index above so many blocks?
-abbrev pub is_tree_page : ℕ → ℕ → ℕ → Bool
-is_tree_page count level i = nat_lt 0 level && nat_le level (top count) && nat_lt i (pages_at count level)
-
--- The file of these bytes, with the pages of their hash tree and the descriptor of their length, root and salt
--- (fs-verity, "Merkle tree" and "fs-verity descriptor"). Where the tree has no page, it reads as zeros.
-unfoldable pub verity_file : List ℕ → List ℕ → File
-verity_file bytes salt = record {
-  bytes = bytes;
-  descriptor = descriptor_bytes (record { size = length bytes; root = record { 0 = root bytes salt }; salt = salt });
-  tree = λ level i. if is_tree_page (block_count (length bytes)) level i then page bytes salt level i else replicate 4096 0;
-}
 
 -- Refused as an alias exactly where the map is: where a component is an alias of an earlier one, by the first such.
 abbrev pub RefusesAlias : Composite → Result (Unit {0}) CompositeFault → Type 0

@@ -3,11 +3,11 @@ ghost use Rattle.std.specs.Prelude.{◌≡◌, List, ℕ, [], OnOk, OnErr, IsSom
 ghost use Rattle.host_traits.specs.declared.calls.Call.TheVariants.{Create, Mkdir, Delete};
 ghost use Rattle.host_traits.specs.declared.calls.Said.TheVariants.{Done};
 ghost use Rattle.host_traits.specs.Held.{is_there};
-ghost use Rattle.host_mem.specs.Mem.{Named, Entries, DiskData, FileData, Does, at, held_of, names_have, may_make, Puts};
+ghost use Rattle.mem_files.specs.Files.{Entries, FileData, at, Puts};
+ghost use Rattle.host_mem.specs.Mem.{Named, DiskData, Does, held_of, names_have, may_make};
 
-use crate::mem_file::MemFile;
-use crate::names::Names;
 use host_traits::HostError;
+use mem_files::{MemFile, Names};
 use mg_base::Memory;
 use std::alloc::Global;
 use std::collections::BTreeMap;
@@ -28,7 +28,9 @@ pub(crate) fn delete(
     dir: u32,
     name: &[u8],
 ) -> Result<(), HostError>
-    ensures { (disks : Entries DiskData) (files : Entries FileData) → Does (Delete dir) name.now (λ _. Done) result (held_of disks files dirs.old.entries) (held_of disks files dirs.new.entries) }
+    ensures { (disks : Entries DiskData) (files : Entries FileData)
+        → Does (Delete dir) name.now (λ _. Done) result (held_of disks files dirs.old.entries)
+        (held_of disks files dirs.new.entries) }
 {
     if !has(dirs, dir, name) {
         return Err(HostError::Failed);
@@ -50,7 +52,8 @@ fn may_make(
     name: &[u8],
     file: u32,
 ) -> bool
-    ensures { result ≡ may_make (at dirs.now.entries dir) (is_there (at files.now.entries file)) (is_there (at dirs.now.entries file)) name.now }
+    ensures { result ≡ may_make (at dirs.now.entries dir) (is_there (at files.now.entries file))
+        (is_there (at dirs.now.entries file)) name.now }
 {
     match dirs.get(&dir) {
         Some(names) => {
@@ -89,7 +92,9 @@ pub(crate) fn create(
     name: &[u8],
     file: u32,
 ) -> Result<(), HostError>
-    ensures { (disks : Entries DiskData) → Does (Create dir file) name.now (λ _. Done) result (held_of disks files.old.entries dirs.old.entries) (held_of disks files.new.entries dirs.new.entries) }
+    ensures { (disks : Entries DiskData) → Does (Create dir file) name.now (λ _. Done) result
+        (held_of disks files.old.entries dirs.old.entries)
+        (held_of disks files.new.entries dirs.new.entries) }
 {
     if !may_make(files, dirs, dir, name, file) {
         return Err(HostError::Failed);
@@ -116,7 +121,9 @@ pub(crate) fn mkdir(
     name: &[u8],
     file: u32,
 ) -> Result<(), HostError>
-    ensures { (disks : Entries DiskData) → Does (Mkdir dir file) name.now (λ _. Done) result (held_of disks files.now.entries dirs.old.entries) (held_of disks files.now.entries dirs.new.entries) }
+    ensures { (disks : Entries DiskData) → Does (Mkdir dir file) name.now (λ _. Done) result
+        (held_of disks files.now.entries dirs.old.entries)
+        (held_of disks files.now.entries dirs.new.entries) }
 {
     if !may_make(files, dirs, dir, name, file) {
         return Err(HostError::Failed);

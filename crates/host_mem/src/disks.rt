@@ -4,7 +4,8 @@ ghost use Rattle.std.specs.Option.{option_map};
 ghost use Rattle.host_traits.specs.declared.calls.Call.TheVariants.{BlockSize, BlockRead, BlockWrite, BlockSync};
 ghost use Rattle.host_traits.specs.declared.calls.Said.TheVariants.{Number, Bytes, Done};
 ghost use Rattle.host_traits.specs.Told.{Fills};
-ghost use Rattle.host_mem.specs.Mem.{Entries, DiskData, FileData, NameList, Does, Puts, at, covers, disk_of, held_of};
+ghost use Rattle.mem_files.specs.Files.{Entries, FileData, NameList, Puts, at};
+ghost use Rattle.host_mem.specs.Mem.{DiskData, Does, covers, disk_of, held_of};
 
 use crate::mem_disk::MemDisk;
 use host_traits::{HostError, Raw};
@@ -32,7 +33,9 @@ fn has(disks: &BTreeMap<u32, MemDisk>, disk: u32, sector: u64, count: u32) -> bo
 
 /// How many sectors a disk has.
 pub(crate) fn size(disks: &BTreeMap<u32, MemDisk>, disk: u32) -> Result<u64, HostError>
-    ensures { (files : Entries FileData) (dirs : Entries NameList) → Does (BlockSize disk) [] (λ n. Number n) result (held_of disks.now.entries files dirs) (held_of disks.now.entries files dirs) }
+    ensures { (files : Entries FileData) (dirs : Entries NameList)
+        → Does (BlockSize disk) [] (λ n. Number n) result (held_of disks.now.entries files dirs)
+        (held_of disks.now.entries files dirs) }
 {
     match disks.get(&disk) {
         Some(held) => Ok(held.len() / 512),
@@ -42,7 +45,9 @@ pub(crate) fn size(disks: &BTreeMap<u32, MemDisk>, disk: u32) -> Result<u64, Hos
 
 /// What was written stays: is there such a disk?
 pub(crate) fn sync(disks: &BTreeMap<u32, MemDisk>, disk: u32) -> Result<(), HostError>
-    ensures { (files : Entries FileData) (dirs : Entries NameList) → Does (BlockSync disk) [] (λ _. Done) result (held_of disks.now.entries files dirs) (held_of disks.now.entries files dirs) }
+    ensures { (files : Entries FileData) (dirs : Entries NameList)
+        → Does (BlockSync disk) [] (λ _. Done) result (held_of disks.now.entries files dirs)
+        (held_of disks.now.entries files dirs) }
 {
     match disks.get(&disk) {
         Some(held) => {
@@ -55,7 +60,6 @@ pub(crate) fn sync(disks: &BTreeMap<u32, MemDisk>, disk: u32) -> Result<(), Host
 
 /// Reads sectors of a disk.
 pub(crate) fn read(
-    alloc: Global,
     disks: &BTreeMap<u32, MemDisk>,
     disk: u32,
     sector: u64,
@@ -64,7 +68,9 @@ pub(crate) fn read(
 ) -> Result<(), HostError>
     requires count { count ≤ 136 }
     requires empty { raw.old ≡ [] }
-    ensures does { (files : Entries FileData) (dirs : Entries NameList) → Does (BlockRead disk sector count) [] (λ _. Bytes raw.new) result (held_of disks.now.entries files dirs) (held_of disks.now.entries files dirs) }
+    ensures does { (files : Entries FileData) (dirs : Entries NameList)
+        → Does (BlockRead disk sector count) [] (λ _. Bytes raw.new) result
+        (held_of disks.now.entries files dirs) (held_of disks.now.entries files dirs) }
     ensures fills { Fills (512 * count) result raw.new }
 {
     let held = match disks.get(&disk) {
@@ -74,10 +80,8 @@ pub(crate) fn read(
     if !is_inside(held.len(), sector, count) {
         return Err(HostError::Failed);
     }
-    match held.read(alloc, 512 * sector, 512 * count as usize, raw) {
-        Ok(()) => Ok(()),
-        Err(_) => Err(HostError::Memory),
-    }
+    held.read(512 * sector, 512 * count as usize, raw);
+    Ok(())
 }
 
 /// Writes sectors of a disk.
@@ -89,7 +93,9 @@ pub(crate) fn write(
 ) -> Result<(), HostError>
     requires whole { length bytes.now % 512 ≡ 0 }
     requires most { length bytes.now ≤ 69632 }
-    ensures { (files : Entries FileData) (dirs : Entries NameList) → Does (BlockWrite disk sector (length bytes.now / 512)) bytes.now (λ _. Done) result (held_of disks.old.entries files dirs) (held_of disks.new.entries files dirs) }
+    ensures { (files : Entries FileData) (dirs : Entries NameList)
+        → Does (BlockWrite disk sector (length bytes.now / 512)) bytes.now (λ _. Done) result
+        (held_of disks.old.entries files dirs) (held_of disks.new.entries files dirs) }
 {
     if !has(disks, disk, sector, (bytes.len() / 512) as u32) {
         return Err(HostError::Failed);
@@ -129,7 +135,9 @@ pub(crate) fn bytes(
     disks: &BTreeMap<u32, MemDisk>,
     disk: u32,
 ) -> Result<Option<Vec<u8>>, Memory>
-    ensures { IfOk result (λ bytes. option_map (λ v. v.items) bytes ≡ option_map (λ d. (disk_of d).bytes) (at disks.now.entries disk)) }
+    ensures { IfOk result
+        (λ bytes. option_map (λ v. v.items) bytes ≡ option_map (λ d. (disk_of d).bytes)
+        (at disks.now.entries disk)) }
 {
     match disks.get(&disk) {
         Some(held) => match held.bytes(alloc) {

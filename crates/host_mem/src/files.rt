@@ -4,17 +4,17 @@ ghost use Rattle.std.specs.Option.{option_map};
 ghost use Rattle.host_traits.specs.declared.calls.Call.TheVariants.{FileRead, TreeRead, Descriptor, FileWrite, TreeWrite, Resize};
 ghost use Rattle.host_traits.specs.declared.calls.Said.TheVariants.{Bytes, Done};
 ghost use Rattle.host_traits.specs.Told.{Fills};
-ghost use Rattle.host_mem.specs.Mem.{Entries, DiskData, FileData, NameList, Does, Puts, at, file_of, held_of, blank_file};
+ghost use Rattle.mem_files.specs.Files.{Entries, FileData, NameList, Puts, at, file_of, blank_file};
+ghost use Rattle.host_mem.specs.Mem.{DiskData, Does, held_of};
 
-use crate::mem_file::MemFile;
 use host_traits::{HostError, Raw};
+use mem_files::MemFile;
 use mg_base::Memory;
 use std::alloc::Global;
 use std::collections::BTreeMap;
 
 /// Reads from a file, cut at its end.
 pub(crate) fn read(
-    alloc: Global,
     files: &BTreeMap<u32, MemFile>,
     file: u32,
     at: u64,
@@ -23,14 +23,16 @@ pub(crate) fn read(
 ) -> Result<(), HostError>
     requires want { want ≤ 69632 }
     requires empty { raw.old ≡ [] }
-    ensures does { (disks : Entries DiskData) (dirs : Entries NameList) → Does (FileRead file at want) [] (λ _. Bytes raw.new) result (held_of disks files.now.entries dirs) (held_of disks files.now.entries dirs) }
+    ensures does { (disks : Entries DiskData) (dirs : Entries NameList)
+        → Does (FileRead file at want) [] (λ _. Bytes raw.new) result
+        (held_of disks files.now.entries dirs) (held_of disks files.now.entries dirs) }
     ensures fills { Fills want result raw.new }
 {
     match files.get(&file) {
-        Some(held) => match held.read(alloc, at, want, raw) {
-            Ok(()) => Ok(()),
-            Err(_) => Err(HostError::Memory),
-        },
+        Some(held) => {
+            held.read(at, want, raw);
+            Ok(())
+        }
         None => Err(HostError::Failed),
     }
 }
@@ -44,7 +46,9 @@ pub(crate) fn read_tree(
     raw: &mut Raw,
 ) -> Result<(), HostError>
     requires { raw.old ≡ [] }
-    ensures does { (disks : Entries DiskData) (dirs : Entries NameList) → Does (TreeRead file level index) [] (λ _. Bytes raw.new) result (held_of disks files.now.entries dirs) (held_of disks files.now.entries dirs) }
+    ensures does { (disks : Entries DiskData) (dirs : Entries NameList)
+        → Does (TreeRead file level index) [] (λ _. Bytes raw.new) result
+        (held_of disks files.now.entries dirs) (held_of disks files.now.entries dirs) }
     ensures fills { Fills 4096 result raw.new }
 {
     match files.get(&file) {
@@ -63,7 +67,9 @@ pub(crate) fn read_descriptor(
     raw: &mut Raw,
 ) -> Result<(), HostError>
     requires { raw.old ≡ [] }
-    ensures does { (disks : Entries DiskData) (dirs : Entries NameList) → Does (Descriptor file) [] (λ _. Bytes raw.new) result (held_of disks files.now.entries dirs) (held_of disks files.now.entries dirs) }
+    ensures does { (disks : Entries DiskData) (dirs : Entries NameList)
+        → Does (Descriptor file) [] (λ _. Bytes raw.new) result
+        (held_of disks files.now.entries dirs) (held_of disks files.now.entries dirs) }
     ensures fills { Fills 256 result raw.new }
 {
     match files.get(&file) {
@@ -85,7 +91,9 @@ pub(crate) fn write(
 ) -> Result<(), HostError>
     requires most { length bytes.now ≤ 4096 }
     requires end { at + length bytes.now ≤ 2 ^ 32 }
-    ensures { (disks : Entries DiskData) (dirs : Entries NameList) → Does (FileWrite file at (length bytes.now)) bytes.now (λ _. Done) result (held_of disks files.old.entries dirs) (held_of disks files.new.entries dirs) }
+    ensures { (disks : Entries DiskData) (dirs : Entries NameList)
+        → Does (FileWrite file at (length bytes.now)) bytes.now (λ _. Done) result
+        (held_of disks files.old.entries dirs) (held_of disks files.new.entries dirs) }
 {
     match files.get_mut(&file) {
         Some(held) => match held.write(alloc, at, bytes) {
@@ -98,19 +106,20 @@ pub(crate) fn write(
 
 /// Cuts the bytes of a file, or adds zeros.
 pub(crate) fn resize(
-    alloc: Global,
     files: &mut BTreeMap<u32, MemFile>,
     file: u32,
     size: u64,
 ) -> Result<(), HostError>
     requires { size ≤ 2 ^ 32 }
-    ensures { (disks : Entries DiskData) (dirs : Entries NameList) → Does (Resize file size) [] (λ _. Done) result (held_of disks files.old.entries dirs) (held_of disks files.new.entries dirs) }
+    ensures { (disks : Entries DiskData) (dirs : Entries NameList)
+        → Does (Resize file size) [] (λ _. Done) result (held_of disks files.old.entries dirs)
+        (held_of disks files.new.entries dirs) }
 {
     match files.get_mut(&file) {
-        Some(held) => match held.resize(alloc, size) {
-            Ok(()) => Ok(()),
-            Err(_) => Err(HostError::Memory),
-        },
+        Some(held) => {
+            held.resize(size);
+            Ok(())
+        }
         None => Err(HostError::Failed),
     }
 }
@@ -125,7 +134,9 @@ pub(crate) fn write_tree(
     bytes: &[u8],
 ) -> Result<(), HostError>
     requires { length bytes.now ≡ 4096 }
-    ensures { (disks : Entries DiskData) (dirs : Entries NameList) → Does (TreeWrite file level index) bytes.now (λ _. Done) result (held_of disks files.old.entries dirs) (held_of disks files.new.entries dirs) }
+    ensures { (disks : Entries DiskData) (dirs : Entries NameList)
+        → Does (TreeWrite file level index) bytes.now (λ _. Done) result
+        (held_of disks files.old.entries dirs) (held_of disks files.new.entries dirs) }
 {
     match files.get_mut(&file) {
         Some(held) => match held.write_tree(alloc, level, index, bytes) {
@@ -158,7 +169,9 @@ pub(crate) fn bytes(
     files: &BTreeMap<u32, MemFile>,
     file: u32,
 ) -> Result<Option<Vec<u8>>, Memory>
-    ensures { IfOk result (λ bytes. option_map (λ v. v.items) bytes ≡ option_map (λ f. f.bytes) (at files.now.entries file)) }
+    ensures { IfOk result
+        (λ bytes. option_map (λ v. v.items) bytes ≡ option_map (λ f. f.bytes)
+        (at files.now.entries file)) }
 {
     match files.get(&file) {
         Some(held) => match held.bytes(alloc) {

@@ -8,19 +8,19 @@ ghost use Rattle.host_traits.specs.Held.{empty_file, is_there, with_dir, with_fi
 ghost use Rattle.host_traits.specs.Told.{Asked, Fills, Told, IsHeardSize};
 ghost use Rattle.composite_spec.specs.Said.{IsComposite, composite};
 ghost use Rattle.block_map.specs.Disk.{contents};
-ghost use Rattle.host_mem.specs.Made.{RefusesAlias, composite_disk, nothing, plain_disk, verity_file, with_disk};
+ghost use Rattle.mem_files.specs.FsVerity.{verity_file};
+ghost use Rattle.host_mem.specs.Made.{RefusesAlias, composite_disk, nothing, plain_disk, with_disk};
 ghost use Rattle.host_mem.specs.Mem.{FailsBy, IsNumbered, mem_held, mem_told, unused};
 
 use crate::count::Tally;
 use crate::fault::CompositeFault;
 use crate::mem_disk::MemDisk;
-use crate::mem_file::MemFile;
-use crate::names::Names;
-use crate::verity::verity;
 use crate::{dirs, disks, files};
 use block_map::{Map, MapFault};
 use composite_spec::Spec;
 use host_traits::{Call, Host, HostError, Raw};
+use mem_files::verity::verity;
+use mem_files::{MemFile, Names};
 use mg_base::{Memory, Salt};
 use std::alloc::Global;
 use std::collections::BTreeMap;
@@ -64,13 +64,14 @@ impl MemHost {
 
     /// Lists anew the numbers of the calls that are to fail. It takes no memory.
     pub fn fail_at(&mut self, calls: Vec<u64>)
-        ensures { self.new ≡ record self.old { count = record self.old.count { failing = calls.items } } }
+        ensures { self.new ≡ record self.old
+            { count = record self.old.count { failing = calls.items } } }
     {
         self.tally.fail_at(calls);
     }
 
     /// Where memory is taken.
-    pub(crate) fn alloc(&self) -> Global {
+    pub fn alloc(&self) -> Global {
         self.alloc
     }
 
@@ -84,7 +85,9 @@ impl MemHost {
 
     /// Is there a file or a directory of this number?
     pub fn has_number(&self, number: u32) -> bool
-        ensures there { result ≡ (is_there ((mem_held self.now).file number) || is_there ((mem_held self.now).dir number)) }
+        ensures there { result
+            ≡ (is_there ((mem_held self.now).file number) || is_there
+            ((mem_held self.now).dir number)) }
         ensures no_file { OnFalse result ((mem_held self.now).file number ≡ None) }
         ensures no_dir { OnFalse result ((mem_held self.now).dir number ≡ None) }
     {
@@ -95,7 +98,8 @@ impl MemHost {
     pub fn add_disk(&mut self, disk: u32, bytes: Vec<u8>) -> Result<(), Memory>
         requires whole { length bytes.items % 512 ≡ 0 }
         requires number { (mem_held self.old).disk disk ≡ None }
-        ensures added { OnOk result (mem_held self.new ≡ with_disk (mem_held self.old) disk (plain_disk bytes.items)) }
+        ensures added { OnOk result
+            (mem_held self.new ≡ with_disk (mem_held self.old) disk (plain_disk bytes.items)) }
         ensures count { self.new.count ≡ self.old.count }
         ensures unchanged { OnErr result (self.new ≡ self.old) }
     {
@@ -118,7 +122,9 @@ impl MemHost {
         requires spec { IsComposite (composite spec) }
         requires files { length files.items ≡ length (composite spec).components }
         requires number { (mem_held self.old).disk disk ≡ None }
-        ensures added { OnOk result (mem_held self.new ≡ with_disk (mem_held self.old) disk (composite_disk (composite spec) (contents files.items))) }
+        ensures added { OnOk result
+            (mem_held self.new ≡ with_disk (mem_held self.old) disk
+            (composite_disk (composite spec) (contents files.items))) }
         ensures alias { RefusesAlias (composite spec) result }
         ensures count { self.new.count ≡ self.old.count }
         ensures unchanged { OnErr result (self.new ≡ self.old) }
@@ -137,7 +143,9 @@ impl MemHost {
     pub fn add_map(&mut self, disk: u32, map: Map, files: Vec<Vec<u8>>) -> Result<(), Memory>
         requires files { length files.items ≡ length map.components }
         requires number { (mem_held self.old).disk disk ≡ None }
-        ensures added { OnOk result (mem_held self.new ≡ with_disk (mem_held self.old) disk (composite_disk map (contents files.items))) }
+        ensures added { OnOk result
+            (mem_held self.new ≡ with_disk (mem_held self.old) disk
+            (composite_disk map (contents files.items))) }
         ensures count { self.new.count ≡ self.old.count }
         ensures unchanged { OnErr result (self.new ≡ self.old) }
     {
@@ -154,7 +162,9 @@ impl MemHost {
         requires most { length bytes.items ≤ 2 ^ 32 }
         requires file { (mem_held self.old).file file ≡ None }
         requires dir { (mem_held self.old).dir file ≡ None }
-        ensures added { OnOk result (mem_held self.new ≡ with_file (mem_held self.old) file (verity_file bytes.items salt)) }
+        ensures added { OnOk result
+            (mem_held self.new ≡ with_file (mem_held self.old) file
+            (verity_file bytes.items salt)) }
         ensures count { self.new.count ≡ self.old.count }
         ensures unchanged { OnErr result (self.new ≡ self.old) }
     {
@@ -173,7 +183,8 @@ impl MemHost {
     pub fn add_empty(&mut self, file: u32) -> Result<(), Memory>
         requires file { (mem_held self.old).file file ≡ None }
         requires dir { (mem_held self.old).dir file ≡ None }
-        ensures added { OnOk result (mem_held self.new ≡ with_file (mem_held self.old) file empty_file) }
+        ensures added { OnOk result
+            (mem_held self.new ≡ with_file (mem_held self.old) file empty_file) }
         ensures count { self.new.count ≡ self.old.count }
         ensures unchanged { OnErr result (self.new ≡ self.old) }
     {
@@ -188,7 +199,8 @@ impl MemHost {
     pub fn add_dir(&mut self, dir: u32) -> Result<(), Memory>
         requires file { (mem_held self.old).file dir ≡ None }
         requires dir { (mem_held self.old).dir dir ≡ None }
-        ensures added { OnOk result (mem_held self.new ≡ with_dir (mem_held self.old) dir (λ name. false)) }
+        ensures added { OnOk result
+            (mem_held self.new ≡ with_dir (mem_held self.old) dir (λ name. false)) }
         ensures count { self.new.count ≡ self.old.count }
         ensures unchanged { OnErr result (self.new ≡ self.old) }
     {
@@ -201,14 +213,18 @@ impl MemHost {
 
     /// The bytes of a disk: None exactly where there is no disk of this number.
     pub fn disk_bytes(&self, disk: u32) -> Result<Option<Vec<u8>>, Memory>
-        ensures { IfOk result (λ bytes. option_map (λ v. v.items) bytes ≡ option_map (λ d. d.bytes) ((mem_held self.now).disk disk)) }
+        ensures { IfOk result
+            (λ bytes. option_map (λ v. v.items) bytes
+            ≡ option_map (λ d. d.bytes) ((mem_held self.now).disk disk)) }
     {
         disks::bytes(self.alloc, &self.disks, disk)
     }
 
     /// The bytes of a file: None exactly where there is no file of this number.
     pub fn file_bytes(&self, file: u32) -> Result<Option<Vec<u8>>, Memory>
-        ensures { IfOk result (λ bytes. option_map (λ v. v.items) bytes ≡ option_map (λ f. f.bytes) ((mem_held self.now).file file)) }
+        ensures { IfOk result
+            (λ bytes. option_map (λ v. v.items) bytes
+            ≡ option_map (λ f. f.bytes) ((mem_held self.now).file file)) }
     {
         files::bytes(self.alloc, &self.files, file)
     }
@@ -218,7 +234,8 @@ impl Host for MemHost {
     ghost told = { λ m. mem_told m };
 
     fn block_size(&mut self, disk: u32) -> Result<u64, HostError>
-        ensures asked { Asked (BlockSize disk) [] (λ n. Number n) result (mem_told self.old) (mem_told self.new) }
+        ensures asked { Asked (BlockSize disk) [] (λ n. Number n) result (mem_told self.old)
+            (mem_told self.new) }
         ensures fails { FailsBy (BlockSize disk) [] result self.old }
         ensures counts { IsNumbered self.old.count self.new.count }
     {
@@ -239,7 +256,8 @@ impl Host for MemHost {
         raw: &mut Raw,
     ) -> Result<(), HostError>
         requires { count ≤ 136 }
-        ensures asked { Asked (BlockRead disk sector count) [] (λ _. Bytes raw.new) result (mem_told self.old) (mem_told self.new) }
+        ensures asked { Asked (BlockRead disk sector count) [] (λ _. Bytes raw.new) result
+            (mem_told self.old) (mem_told self.new) }
         ensures fills { Fills (512 * count) result raw.new }
         ensures fails { FailsBy (BlockRead disk sector count) [] result self.old }
         ensures counts { IsNumbered self.old.count self.new.count }
@@ -253,7 +271,7 @@ impl Host for MemHost {
         if self.tally.begin(call) {
             return Err(HostError::Failed);
         }
-        let answer = disks::read(self.alloc, &self.disks, disk, sector, count, raw);
+        let answer = disks::read(&self.disks, disk, sector, count, raw);
         self.tally.end(call, answer);
         answer
     }
@@ -261,8 +279,10 @@ impl Host for MemHost {
     fn block_write(&mut self, disk: u32, sector: u64, bytes: &[u8]) -> Result<(), HostError>
         requires whole { length bytes.now % 512 ≡ 0 }
         requires most { length bytes.now ≤ 69632 }
-        ensures asked { Asked (BlockWrite disk sector (length bytes.now / 512)) bytes.now (λ _. Done) result (mem_told self.old) (mem_told self.new) }
-        ensures fails { FailsBy (BlockWrite disk sector (length bytes.now / 512)) bytes.now result self.old }
+        ensures asked { Asked (BlockWrite disk sector (length bytes.now / 512)) bytes.now
+            (λ _. Done) result (mem_told self.old) (mem_told self.new) }
+        ensures fails { FailsBy (BlockWrite disk sector (length bytes.now / 512)) bytes.now result
+            self.old }
         ensures counts { IsNumbered self.old.count self.new.count }
     {
         let count = (bytes.len() / 512) as u32;
@@ -280,7 +300,8 @@ impl Host for MemHost {
     }
 
     fn block_sync(&mut self, disk: u32) -> Result<(), HostError>
-        ensures asked { Asked (BlockSync disk) [] (λ _. Done) result (mem_told self.old) (mem_told self.new) }
+        ensures asked { Asked (BlockSync disk) [] (λ _. Done) result (mem_told self.old)
+            (mem_told self.new) }
         ensures fails { FailsBy (BlockSync disk) [] result self.old }
         ensures counts { IsNumbered self.old.count self.new.count }
     {
@@ -295,7 +316,8 @@ impl Host for MemHost {
 
     fn file_read(&mut self, file: u32, at: u64, want: u32, raw: &mut Raw) -> Result<(), HostError>
         requires { want ≤ 69632 }
-        ensures asked { Asked (FileRead file at want) [] (λ _. Bytes raw.new) result (mem_told self.old) (mem_told self.new) }
+        ensures asked { Asked (FileRead file at want) [] (λ _. Bytes raw.new) result
+            (mem_told self.old) (mem_told self.new) }
         ensures fills { Fills want result raw.new }
         ensures fails { FailsBy (FileRead file at want) [] result self.old }
         ensures counts { IsNumbered self.old.count self.new.count }
@@ -305,7 +327,7 @@ impl Host for MemHost {
         if self.tally.begin(call) {
             return Err(HostError::Failed);
         }
-        let answer = files::read(self.alloc, &self.files, file, at, want, raw);
+        let answer = files::read(&self.files, file, at, want, raw);
         self.tally.end(call, answer);
         answer
     }
@@ -317,7 +339,8 @@ impl Host for MemHost {
         index: u64,
         raw: &mut Raw,
     ) -> Result<(), HostError>
-        ensures asked { Asked (TreeRead file level index) [] (λ _. Bytes raw.new) result (mem_told self.old) (mem_told self.new) }
+        ensures asked { Asked (TreeRead file level index) [] (λ _. Bytes raw.new) result
+            (mem_told self.old) (mem_told self.new) }
         ensures fills { Fills 4096 result raw.new }
         ensures fails { FailsBy (TreeRead file level index) [] result self.old }
         ensures counts { IsNumbered self.old.count self.new.count }
@@ -333,7 +356,8 @@ impl Host for MemHost {
     }
 
     fn file_descriptor(&mut self, file: u32, raw: &mut Raw) -> Result<(), HostError>
-        ensures asked { Asked (Descriptor file) [] (λ _. Bytes raw.new) result (mem_told self.old) (mem_told self.new) }
+        ensures asked { Asked (Descriptor file) [] (λ _. Bytes raw.new) result (mem_told self.old)
+            (mem_told self.new) }
         ensures fills { Fills 256 result raw.new }
         ensures fails { FailsBy (Descriptor file) [] result self.old }
         ensures counts { IsNumbered self.old.count self.new.count }
@@ -351,7 +375,8 @@ impl Host for MemHost {
     fn file_write(&mut self, file: u32, at: u64, bytes: &[u8]) -> Result<(), HostError>
         requires most { length bytes.now ≤ 4096 }
         requires end { at + length bytes.now ≤ 2 ^ 32 }
-        ensures asked { Asked (FileWrite file at (length bytes.now)) bytes.now (λ _. Done) result (mem_told self.old) (mem_told self.new) }
+        ensures asked { Asked (FileWrite file at (length bytes.now)) bytes.now (λ _. Done) result
+            (mem_told self.old) (mem_told self.new) }
         ensures fails { FailsBy (FileWrite file at (length bytes.now)) bytes.now result self.old }
         ensures counts { IsNumbered self.old.count self.new.count }
     {
@@ -373,7 +398,8 @@ impl Host for MemHost {
         bytes: &[u8],
     ) -> Result<(), HostError>
         requires { length bytes.now ≡ 4096 }
-        ensures asked { Asked (TreeWrite file level index) bytes.now (λ _. Done) result (mem_told self.old) (mem_told self.new) }
+        ensures asked { Asked (TreeWrite file level index) bytes.now (λ _. Done) result
+            (mem_told self.old) (mem_told self.new) }
         ensures fails { FailsBy (TreeWrite file level index) bytes.now result self.old }
         ensures counts { IsNumbered self.old.count self.new.count }
     {
@@ -388,7 +414,8 @@ impl Host for MemHost {
 
     fn file_resize(&mut self, file: u32, size: u64) -> Result<(), HostError>
         requires { size ≤ 2 ^ 32 }
-        ensures asked { Asked (Resize file size) [] (λ _. Done) result (mem_told self.old) (mem_told self.new) }
+        ensures asked { Asked (Resize file size) [] (λ _. Done) result (mem_told self.old)
+            (mem_told self.new) }
         ensures fails { FailsBy (Resize file size) [] result self.old }
         ensures counts { IsNumbered self.old.count self.new.count }
     {
@@ -396,13 +423,14 @@ impl Host for MemHost {
         if self.tally.begin(call) {
             return Err(HostError::Failed);
         }
-        let answer = files::resize(self.alloc, &mut self.files, file, size);
+        let answer = files::resize(&mut self.files, file, size);
         self.tally.end(call, answer);
         answer
     }
 
     fn file_create(&mut self, dir: u32, name: &[u8], file: u32) -> Result<(), HostError>
-        ensures asked { Asked (Create dir file) name.now (λ _. Done) result (mem_told self.old) (mem_told self.new) }
+        ensures asked { Asked (Create dir file) name.now (λ _. Done) result (mem_told self.old)
+            (mem_told self.new) }
         ensures fails { FailsBy (Create dir file) name.now result self.old }
         ensures counts { IsNumbered self.old.count self.new.count }
     {
@@ -416,7 +444,8 @@ impl Host for MemHost {
     }
 
     fn file_mkdir(&mut self, dir: u32, name: &[u8], file: u32) -> Result<(), HostError>
-        ensures asked { Asked (Mkdir dir file) name.now (λ _. Done) result (mem_told self.old) (mem_told self.new) }
+        ensures asked { Asked (Mkdir dir file) name.now (λ _. Done) result (mem_told self.old)
+            (mem_told self.new) }
         ensures fails { FailsBy (Mkdir dir file) name.now result self.old }
         ensures counts { IsNumbered self.old.count self.new.count }
     {
@@ -430,7 +459,8 @@ impl Host for MemHost {
     }
 
     fn file_delete(&mut self, dir: u32, name: &[u8]) -> Result<(), HostError>
-        ensures asked { Asked (Delete dir) name.now (λ _. Done) result (mem_told self.old) (mem_told self.new) }
+        ensures asked { Asked (Delete dir) name.now (λ _. Done) result (mem_told self.old)
+            (mem_told self.new) }
         ensures fails { FailsBy (Delete dir) name.now result self.old }
         ensures counts { IsNumbered self.old.count self.new.count }
     {

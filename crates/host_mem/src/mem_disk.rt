@@ -38,11 +38,24 @@ impl Model for MemDisk {
     ghost invariant = { λ d. IsDisk (disk_data d.store) };
 }
 
+// Fills a slice with the bytes of a composite disk from a place on.
+fn fill(map: &Map, files: &[Vec<u8>], at: u64, out: &mut [u8])
+    requires count { length files.now ≡ length map.now.components }
+    requires inside { at + length out.old ≤ map.now.length }
+    ensures { out.new ≡ take (length out.old) (drop at (disk_bytes map.now (contents files.now))) }
+{
+    match map.read(files, at, out) {
+        Ok(()) => {}
+        Err(_) => unreachable!(),
+    }
+}
+
 // So many bytes of a composite disk from a place on.
 fn copy(alloc: Global, map: &Map, files: &[Vec<u8>], at: u64, len: usize) -> Result<Vec<u8>, Memory>
     requires count { length files.now ≡ length map.now.components }
     requires inside { at + len ≤ map.now.length }
-    ensures { IfOk result (λ v. v.items ≡ take len (drop at (disk_bytes map.now (contents files.now)))) }
+    ensures { IfOk result
+        (λ v. v.items ≡ take len (drop at (disk_bytes map.now (contents files.now)))) }
 {
     let mut out = match vec![in alloc; 0u8; len] {
         Ok(out) => out,
@@ -57,7 +70,8 @@ fn copy(alloc: Global, map: &Map, files: &[Vec<u8>], at: u64, len: usize) -> Res
 // Puts bytes over others.
 fn put(bytes: &mut Vec<u8>, at: usize, piece: &[u8])
     requires { at + length piece.now ≤ length bytes.old.items }
-    ensures { bytes.new.items ≡ take at bytes.old.items ++ piece.now ++ drop (at + length piece.now) bytes.old.items }
+    ensures { bytes.new.items ≡ take at bytes.old.items ++ piece.now ++ drop (at + length piece.now)
+        bytes.old.items }
 {
     let end = at + piece.len();
     let all = bytes.as_mut_slice();
@@ -69,8 +83,12 @@ fn write(store: &mut Store, at: u64, bytes: &[u8]) -> bool
     requires is { IsDisk (disk_data store.old) }
     requires inside { at + length bytes.now ≤ length (disk_of (disk_data store.old)).bytes }
     ensures is { IsDisk (disk_data store.new) }
-    ensures judged { result ≡ all_writable (disk_of (disk_data store.old)).writable at (length bytes.now) }
-    ensures wrote { MatchBool result (disk_of (disk_data store.new) ≡ record (disk_of (disk_data store.old)) { bytes = over (disk_of (disk_data store.old)).bytes at bytes.now }) (disk_data store.new ≡ disk_data store.old) }
+    ensures judged { result ≡ all_writable (disk_of (disk_data store.old)).writable at
+        (length bytes.now) }
+    ensures wrote { MatchBool result
+        (disk_of (disk_data store.new) ≡ record (disk_of (disk_data store.old))
+        { bytes = over (disk_of (disk_data store.old)).bytes at bytes.now })
+        (disk_data store.new ≡ disk_data store.old) }
 {
     match store {
         Store::Plain(all) => {
@@ -114,32 +132,18 @@ impl MemDisk {
         }
     }
 
-    /// Reads so many bytes from a place on.
-    pub(crate) fn read(
-        &self,
-        alloc: Global,
-        at: u64,
-        len: usize,
-        raw: &mut Raw,
-    ) -> Result<(), Memory>
+    /// Reads so many bytes from a place on. It takes no memory.
+    pub(crate) fn read(&self, at: u64, len: usize, raw: &mut Raw)
         requires most { len ≤ 69632 }
         requires inside { at + len ≤ length (disk_of self.now).bytes }
-        ensures ok { OnOk result (raw.new ≡ take len (drop at (disk_of self.now).bytes)) }
-        ensures err { OnErr result (raw.new ≡ raw.old) }
+        ensures { raw.new ≡ take len (drop at (disk_of self.now).bytes) }
     {
         match &self.store {
             Store::Plain(bytes) => {
                 let from = at as usize;
                 raw.put(&bytes[from..from + len]);
-                Ok(())
             }
-            Store::Composite(map, files) => match copy(alloc, map, files, at, len) {
-                Ok(bytes) => {
-                    raw.put(&bytes);
-                    Ok(())
-                }
-                Err(_) => Err(Memory),
-            },
+            Store::Composite(map, files) => fill(map, files, at, raw.room(len)),
         }
     }
 
@@ -160,7 +164,9 @@ impl MemDisk {
     pub(crate) fn write(&mut self, at: u64, bytes: &[u8]) -> bool
         requires { at + length bytes.now ≤ length (disk_of self.old).bytes }
         ensures judged { result ≡ all_writable (disk_of self.old).writable at (length bytes.now) }
-        ensures wrote { MatchBool result (disk_of self.new ≡ record (disk_of self.old) { bytes = over (disk_of self.old).bytes at bytes.now }) (self.new ≡ self.old) }
+        ensures wrote { MatchBool result
+            (disk_of self.new ≡ record (disk_of self.old)
+            { bytes = over (disk_of self.old).bytes at bytes.now }) (self.new ≡ self.old) }
     {
         write(&mut self.store, at, bytes)
     }

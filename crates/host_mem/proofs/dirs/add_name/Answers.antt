@@ -3,7 +3,7 @@ use Rattle.std.specs.Prelude.{IsSome}
 use Rattle.std.specs.Ordering.{nat_cmp}
 use Rattle.std.specs.BTreeMap.{is_at}
 use Rattle.std.proofs.lemmas.Map.Steps.{set_value_same}
-use Rattle.host_mem.specs.Mem.{at}
+use Rattle.mem_files.specs.Files.{at}
 use Rattle.host_mem.proofs.dirs.add_name.Goals as goal
 
 pub returns-in-Ok-clause-ok : goal.returns-in-Ok-clause-ok

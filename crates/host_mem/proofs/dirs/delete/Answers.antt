@@ -1,6 +1,7 @@
 use Rattle.std.proofs.Common.{◌≡◌, refl, sym, ◌∙◌, Some, None, false}
 use Rattle.std.specs.Prelude.{IsSome}
-use Rattle.host_mem.specs.Mem.{at, names_have}
+use Rattle.mem_files.specs.Files.{at}
+use Rattle.host_mem.specs.Mem.{names_have}
 use Rattle.host_mem.proofs.Changes.{no_name, named, not_named, deletes}
 use Rattle.host_mem.proofs.dirs.delete.Goals as goal
 

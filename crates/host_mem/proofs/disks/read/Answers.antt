@@ -1,6 +1,7 @@
 use Rattle.std.proofs.Common.{◌≡◌, ◌∙◌, ◌+◌, ◌*◌, [], true, false, length, sym, refl, Some, None}
 use Rattle.std.specs.Prelude.{nat_le}
-use Rattle.host_mem.specs.Mem.{at, disk_of}
+use Rattle.mem_files.specs.Files.{at}
+use Rattle.host_mem.specs.Mem.{disk_of}
 use Rattle.host_mem.proofs.Changes.{no_disk, past_disk, reads_disk}
 use Rattle.host_mem.proofs.disks.read.Goals as goal
 
@@ -15,8 +16,8 @@ returns-then-not-is_inside-clause-does c = λ files dirs.
     let past : nat_le (512 * (c.args.sector + c.args.count)) (length (disk_of c.in-Some.held.now).bytes) ≡ false = rw c.len.ensures at (sym c.is_inside.ensures ∙ c.if-not-is_inside.true) in
     (past_disk c.args.disks.now.entries files dirs c.args.disk c.args.sector c.args.count c.in-Some.held.now there past, refl)
 
-pub returns-in-Ok-clause-does : goal.returns-in-Ok-clause-does
-returns-in-Ok-clause-does c = λ files dirs.
+pub returns-clause-does : goal.returns-clause-does
+returns-clause-does c = λ files dirs.
     let there : at c.args.disks.now.entries c.args.disk ≡ Some c.in-Some.held.now = sym c.in-Some.ensures.value in
     let inside : nat_le (512 * (c.args.sector + c.args.count)) (length (disk_of c.in-Some.held.now).bytes) ≡ true = rw c.len.ensures at (sym c.is_inside.ensures ∙ c.if-not-is_inside.false) in
-    rw c.in-Ok.ensures.ok (reads_disk c.args.disks.now.entries files dirs c.args.disk c.args.sector c.args.count c.in-Some.held.now there inside)
+    rw c.read.ensures (reads_disk c.args.disks.now.entries files dirs c.args.disk c.args.sector c.args.count c.in-Some.held.now there inside)

@@ -1,5 +1,5 @@
 use Rattle.std.proofs.Common.{◌≡◌, [], sym, refl, Some, None}
-use Rattle.host_mem.specs.Mem.{at}
+use Rattle.mem_files.specs.Files.{at}
 use Rattle.host_mem.proofs.Changes.{no_disk, sizes_disk}
 use Rattle.host_mem.proofs.disks.sync.Goals as goal
 

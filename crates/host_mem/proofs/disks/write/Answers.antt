@@ -4,7 +4,8 @@ use Rattle.std.specs.Ordering.{nat_cmp}
 use Rattle.std.specs.BTreeMap.{is_at}
 use Rattle.std.proofs.lemmas.Map.Steps.{set_value_same}
 use Rattle.host_traits.specs.Held.{all_writable}
-use Rattle.host_mem.specs.Mem.{Entries, DiskData, Puts, at, disk_of, held_of}
+use Rattle.mem_files.specs.Files.{Entries, Puts, at}
+use Rattle.host_mem.specs.Mem.{DiskData, disk_of, held_of}
 use Rattle.host_mem.proofs.Changes.{unwritten, covered, writes_disk, shut_disk}
 use Rattle.host_mem.proofs.disks.write.Goals as goal
 

@@ -1,5 +1,5 @@
 use Rattle.std.proofs.Common.{length-take, ◌≡◌, [], arith, refl, sym, Some, None}
-use Rattle.host_mem.specs.Mem.{at}
+use Rattle.mem_files.specs.Files.{at}
 use Rattle.host_mem.proofs.Changes.{no_file, reads_descriptor}
 use Rattle.host_mem.proofs.files.read_descriptor.Goals as goal
 

@@ -1,6 +1,6 @@
 use Rattle.std.proofs.Common.{◌≡◌, [], length, take, arith, refl, sym, Some, None}
 use Rattle.std.proofs.lemmas.List.{take_all}
-use Rattle.host_mem.specs.Mem.{at, page_in}
+use Rattle.mem_files.specs.Files.{at, page_in}
 use Rattle.host_mem.proofs.Changes.{no_file, reads_tree}
 use Rattle.host_mem.proofs.files.read_tree.Goals as goal
 

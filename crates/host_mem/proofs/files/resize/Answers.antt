@@ -1,18 +1,19 @@
 use Rattle.std.proofs.Common.{◌≡◌, [], refl, ap, sym, Some, None}
 use Rattle.std.specs.Prelude.{IsSome}
 use Rattle.host_traits.specs.Held.{resized}
-use Rattle.host_mem.specs.Mem.{at, held_of}
-use Rattle.host_mem.specs.Mem.{Puts}
+use Rattle.mem_files.specs.Files.{at}
+use Rattle.host_mem.specs.Mem.{held_of}
+use Rattle.mem_files.specs.Files.{Puts}
 use Rattle.host_mem.proofs.Changes.{no_file, resizes_file}
 use Rattle.host_mem.proofs.files.resize.Goals as goal
 
-pub returns-in-Ok : goal.returns-in-Ok
-returns-in-Ok c = λ disks dirs.
+pub returns-in-Some : goal.returns-in-Some
+returns-in-Some c = λ disks dirs.
     let there : at c.args.files.now.entries c.args.file ≡ Some c.in-Some.held.now = sym c.in-Some.ensures.value in
     let w = c.get_mut.follows.holds c.resize.new.self in
     let here : IsSome (at c.args.files.now.entries c.args.file) = rw there refl in
     let files = (c.get_mut.follows.lender c.resize.new.self).entries in
-    let same : c.resize.new.self ≡ record c.in-Some.held.now { bytes = resized c.in-Some.held.now.bytes c.args.size } = c.in-Ok.ensures.ok in
+    let same : c.resize.new.self ≡ record c.in-Some.held.now { bytes = resized c.in-Some.held.now.bytes c.args.size } = c.resize.ensures in
     let written : Puts c.args.files.now.entries files c.args.file (record c.in-Some.held.now { bytes = resized c.in-Some.held.now.bytes c.args.size }) = rw (← same) (w.3 here).0 in
     resizes_file disks c.args.files.now.entries files dirs c.args.file c.args.size c.in-Some.held.now there written
 

@@ -1,8 +1,9 @@
 use Rattle.std.proofs.Common.{◌≡◌, length, refl, ap, sym, Some, None}
 use Rattle.std.specs.Prelude.{IsSome}
 use Rattle.host_traits.specs.Held.{over}
-use Rattle.host_mem.specs.Mem.{at, held_of}
-use Rattle.host_mem.specs.Mem.{Puts}
+use Rattle.mem_files.specs.Files.{at}
+use Rattle.host_mem.specs.Mem.{held_of}
+use Rattle.mem_files.specs.Files.{Puts}
 use Rattle.host_mem.proofs.Changes.{no_file, writes_file}
 use Rattle.host_mem.proofs.files.write.Goals as goal
 

@@ -1,6 +1,7 @@
 use Rattle.std.proofs.Common.{◌≡◌, refl, ap, sym, Some, None}
 use Rattle.std.specs.Prelude.{IsSome}
-use Rattle.host_mem.specs.Mem.{at, held_of}
+use Rattle.mem_files.specs.Files.{at}
+use Rattle.host_mem.specs.Mem.{held_of}
 use Rattle.host_mem.proofs.Changes.{no_file, writes_tree}
 use Rattle.host_mem.proofs.files.write_tree.Goals as goal
 

@@ -1,7 +1,0 @@
-use Rattle.std.proofs.Common.{ap, ◌∙◌}
-use Rattle.host_mem.specs.Mem.{has_name}
-use Rattle.host_mem.proofs.NameKeys.{has_key}
-use Rattle.host_mem.proofs.names.Names.has.Goals as goal
-
-pub returns : goal.returns
-returns c = c.contains.ensures ∙ has_key c.args.name.now c.self.inside.names.keys ∙ ap (λ names. has_name names c.args.name.now) c.self.view_is
