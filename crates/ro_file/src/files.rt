@@ -3,6 +3,7 @@ ghost use Rattle.std.specs.Prelude.{◌≡◌, ℕ, ◌≤◌, List, [], length,
 ghost use Rattle.host_traits.specs.Did.{Did};
 ghost use Rattle.verity_path.specs.Range.{most_answers, IsForRead, RangeOutcome};
 ghost use Rattle.ro_file.specs.Files.{IsReadable, layout_of};
+ghost use Rattle.ro_file.specs.Holding.{FileOpens, FileReadIsRight};
 ghost use Rattle.ro_file.specs.Opening.{IsDescriptorCall, OpenFileOutcome, Describes, opened};
 
 use host_traits::{Host, HostError, Raw};
@@ -109,7 +110,11 @@ pub fn open_file<H: Host>(
     digest: &Digest,
     raw: &mut Raw,
 ) -> Result<RoFile, RoFault>
-    ensures { Did (IsDescriptorCall file) 1 (H.told host.old) (H.told host.new) (OpenFileOutcome file digest.now result) }
+    // The one call, and what came of it.
+    ensures did { Did (IsDescriptorCall file) 1 (H.told host.old) (H.told host.new)
+        (OpenFileOutcome file digest.now result) }
+    // Over an honest host that holds a file with this digest, the file or want of memory.
+    ensures held { FileOpens file digest.now (H.told host.old) (H.told host.new) result }
 {
     match host.file_descriptor(file, raw) {
         Ok(()) => {}
@@ -148,8 +153,11 @@ impl RoFile {
     ) -> Result<(), WalkFault>
         requires empty { served.old ≡ [] }
         requires most { len ≤ 131072 }
-        ensures { Did (IsForRead (layout_of self.now) self.now.measure self.now.size at len) (most_answers self.now.measure self.now.size at len) (H.told host.old) (H.told host.new)
+        ensures did { Did (IsForRead (layout_of self.now) self.now.measure self.now.size at len)
+            (most_answers self.now.measure self.now.size at len) (H.told host.old) (H.told host.new)
             (RangeOutcome (layout_of self.now) self.now.measure self.now.size at len served.new result) }
+        // Over an honest host that holds the content, its bytes or want of memory.
+        ensures held { FileReadIsRight self.now at len (H.told host.old) (H.told host.new) served.new result }
     {
         let device = Device {
             measure: self.measure,

@@ -3,6 +3,7 @@ ghost use Rattle.std.specs.Prelude.{◌≡◌, ℕ, ◌+◌, ◌-◌, ◌*◌, �
 ghost use Rattle.host_traits.specs.Did.{Did};
 ghost use Rattle.verity_path.specs.Calls.{Suits};
 ghost use Rattle.verity_path.specs.Range.{most_answers, IsForRead, RangeOutcome};
+ghost use Rattle.verity_path.specs.Holding.{RangeIsRight};
 
 use crate::served::Served;
 use crate::states::Mismatch;
@@ -47,9 +48,12 @@ pub fn read_range<H: Host>(
     requires limit { device.now.measure.blocks ≤ 1048576 }
     requires suits { Suits device.now.layout device.now.measure.blocks }
     requires fits { size ≤ 4096 * device.now.measure.blocks }
-    ensures { Did (IsForRead device.now.layout device.now.measure size at len)
+    ensures did { Did (IsForRead device.now.layout device.now.measure size at len)
         (most_answers device.now.measure size at len) (H.told host.old) (H.told host.new)
         (RangeOutcome device.now.layout device.now.measure size at len served.new result) }
+    // Over an honest host that holds the content, its bytes or want of memory.
+    ensures held { RangeIsRight device.now.layout device.now.measure size at len
+        (H.told host.old) (H.told host.new) served.new result }
 {
     if len == 0 || at >= size {
         return Ok(());

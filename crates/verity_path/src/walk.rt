@@ -5,6 +5,7 @@ ghost use Rattle.sha_tree.specs.Tree.{page_hash, padded, top, pages_at};
 ghost use Rattle.verity_path.specs.Calls.{Suits, IsOnPath};
 ghost use Rattle.verity_path.specs.Steps.{IsCallFor, FetchOutcome, ProvedOutcome, DescentOutcome};
 ghost use Rattle.verity_path.specs.Walk.{WalkOutcome};
+ghost use Rattle.verity_path.specs.Holding.{PageIsRight, ProvedIsRight, BelowIsRight, WalkIsRight};
 
 use crate::ask::{ask, piece_of};
 use crate::states::{Anchor, Mismatch, Proved, meets};
@@ -57,9 +58,11 @@ pub fn fetch_page<H: Host>(
     requires low { anchor.now.level ≤ top geometry.now }
     requires within { anchor.now.index < pages_at geometry.now anchor.now.level }
     requires suits { Suits layout.now geometry.now }
-    ensures { Did (IsCallFor layout.now geometry.now anchor.now.level anchor.now.index) 1
+    ensures did { Did (IsCallFor layout.now geometry.now anchor.now.level anchor.now.index) 1
         (H.told host.old) (H.told host.new)
         (FetchOutcome layout.now geometry.now anchor.now page.old page.new result) }
+    // Over an honest host that holds the content, its page or want of memory.
+    ensures held { PageIsRight layout.now geometry.now anchor.now (H.told host.old) (H.told host.new) page.new result }
 {
     let level = anchor.level();
     let index = anchor.index();
@@ -97,9 +100,10 @@ fn fetch<'a, H: Host>(
     requires low { anchor.now.level ≤ top geometry.now }
     requires within { anchor.now.index < pages_at geometry.now anchor.now.level }
     requires suits { Suits layout.now geometry.now }
-    ensures { Did (IsCallFor layout.now geometry.now anchor.now.level anchor.now.index) 1
+    ensures did { Did (IsCallFor layout.now geometry.now anchor.now.level anchor.now.index) 1
         (H.told host.old) (H.told host.new)
         (ProvedOutcome layout.now geometry.now anchor.now result) }
+    ensures held { ProvedIsRight layout.now geometry.now anchor.now (H.told host.old) (H.told host.new) result }
 {
     match fetch_page(host, layout, geometry, anchor, raw, page) {
         Ok(()) => Ok(Proved::new(page, anchor)),
@@ -122,9 +126,10 @@ fn descend<H: Host>(
     requires low { anchor.now.level ≤ top geometry.now }
     requires within { anchor.now.index < pages_at geometry.now anchor.now.level }
     requires suits { Suits layout.now geometry.now }
-    ensures { Did (IsCallFor layout.now geometry.now anchor.now.level anchor.now.index) 1
+    ensures did { Did (IsCallFor layout.now geometry.now anchor.now.level anchor.now.index) 1
         (H.told host.old) (H.told host.new)
         (DescentOutcome layout.now geometry.now block anchor.now result) }
+    ensures held { BelowIsRight layout.now geometry.now block anchor.now (H.told host.old) (H.told host.new) result }
 {
     let slot = ancestor_of(block, anchor.level() - 1) % 128;
     match fetch(host, layout, geometry, anchor, raw, page) {
@@ -146,8 +151,10 @@ pub fn walk_page<'a, H: Host>(
     requires within { index < measure.now.blocks }
     requires limit { measure.now.blocks ≤ 1048576 }
     requires suits { Suits layout.now measure.now.blocks }
-    ensures { Did (IsOnPath layout.now measure.now index) (top measure.now.blocks + 1)
+    ensures did { Did (IsOnPath layout.now measure.now index) (top measure.now.blocks + 1)
         (H.told host.old) (H.told host.new) (WalkOutcome layout.now measure.now index result) }
+    // Over an honest host that holds the content, its block or want of memory.
+    ensures held { WalkIsRight layout.now measure.now index (H.told host.old) (H.told host.new) result }
 {
     let Some(geometry) = Geometry::new(measure.blocks) else {
         unreachable!()
