@@ -6,6 +6,7 @@
 ghost use Rattle.std.specs.Prelude.{◌≡◌, ◌+◌, ◌*◌, ◌^◌, ◌≤◌, ◌<◌, min, length, IfOk, IfSome, option_copied};
 ghost use Rattle.host_traits.specs.Did.{Did};
 ghost use Rattle.verity_path.specs.Calls.{Suits};
+ghost use Rattle.apk_verity.specs.Holding.{DeviceOpens};
 ghost use Rattle.apk_verity.specs.Opening.{opening, IsIdsigCall, OpenOutcome, first_measure, kept_measure, measure_of, opened, LiesIn, DevicesOpen};
 
 use host_traits::{Host, HostError, Raw};
@@ -152,8 +153,12 @@ pub fn open_apk<H: Host>(
     requires idsig_end { idsig.first + idsig.sectors ≤ 2 ^ 40 }
     requires measure { IfSome measure (λ m. (2 ≤ m.now.blocks) × (m.now.blocks ≤ 1048576)) }
     // The one call, and what came of it.
-    ensures opened { Did (IsIdsigCall (opening disk apk idsig (option_copied measure.entry))) 1 (H.told host.old) (H.told host.new)
+    ensures opened { Did (IsIdsigCall (opening disk apk idsig (option_copied measure.entry))) 1
+        (H.told host.old) (H.told host.new)
         (OpenOutcome (opening disk apk idsig (option_copied measure.entry)) result) }
+    // Over an honest host that holds the idsig, the device or want of memory.
+    ensures held { DeviceOpens (opening disk apk idsig (option_copied measure.entry))
+        (H.told host.old) (H.told host.new) result }
     // A measure that has to be met is the device's.
     ensures kept { IfSome measure.entry (λ m. IfOk result (λ d. d.measure ≡ m.now)) }
     // A device can be read, and lies in its two parts.
