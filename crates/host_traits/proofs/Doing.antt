@@ -41,29 +41,13 @@ pub each_so : (F G : Call → List ℕ → Type 0) (x : List Made) → ((call : 
 each_so F G [] f each = tt
 each_so F G (m ∷ x) f each = (f m.call m.given each.0, each_so F G x f each.1)
 
--- where no call failed, none follows a failed one
-stops_none : (x : List Made) → failures_of x ≡ 0 → StopsAtFailure x
-stops_none [] none = tt
-stops_none (m ∷ x) none = (answered m.came none, stops_none x (omega (arith, none))) where
-  answered : (came : Option Said) → one_failure came + failures_of x ≡ 0 → came ≡ None → x ≡ []
-  answered None none e = absurd (omega (arith, none))
-  answered (Some said) none e = absurd cc
-
--- nor where calls of which none failed stand before others
+-- no call follows a failed one, where calls of which none failed stand before others
 pub stops_on : (x y : List Made) → failures_of x ≡ 0 → StopsAtFailure y → StopsAtFailure (x ++ y)
 stops_on [] y none stops = stops
 stops_on (m ∷ x) y none stops = (answered m.came none, stops_on x y (omega (arith, none)) stops) where
   answered : (came : Option Said) → one_failure came + failures_of x ≡ 0 → came ≡ None → x ++ y ≡ []
   answered None none e = absurd (omega (arith, none))
   answered (Some said) none e = absurd cc
-
--- calls of which none follows a failed one have at most one that failed
-pub one_at_most : (x : List Made) → StopsAtFailure x → failures_of x ≤ 1
-one_at_most [] stops = omega arith
-one_at_most (m ∷ x) stops = last m.came stops.0 (one_at_most x stops.1) where
-  last : (came : Option Said) → (came ≡ None → x ≡ []) → failures_of x ≤ 1 → one_failure came + failures_of x ≤ 1
-  last None none rest = omega (arith, ap failures_of (none refl))
-  last (Some said) none rest = omega (arith, rest)
 
 -- nothing was asked
 pub did_none : (F : Call → Type 0) (most : ℕ) (a : Told) (R : Trace → Type 0) → R (trace_of [] 0 a a) → Did F most a a R
