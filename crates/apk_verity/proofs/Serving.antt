@@ -25,17 +25,26 @@ module _ (o : Opening) (count : ℕ) (count_is : count ≡ count_of o) (some : 1
   served h head m holds =
       let few : count ≤ o.idsig.sectors = omega (arith, count_is) in
       let ends : 512 * (o.idsig.first + count) ≤ length holds.disk.bytes =
-      omega (arith, count_is, some, ap length holds.bytes, holds.whole, length-take (512 * o.idsig.sectors) (drop (512 * o.idsig.first) holds.disk.bytes),
-      length-drop (512 * o.idsig.first) holds.disk.bytes) in
+      omega (
+        arith,
+        count_is,
+        some,
+        ap length holds.bytes,
+        holds.whole,
+        length-take (512 * o.idsig.sectors) (drop (512 * o.idsig.first) holds.disk.bytes),
+        length-drop (512 * o.idsig.first) holds.disk.bytes,
+      ) in
       let same : take (512 * count) (drop (512 * o.idsig.first) holds.disk.bytes) ≡ take (512 * count_of o) holds.part =
       sym (take-take (512 * count) (512 * o.idsig.sectors) (drop (512 * o.idsig.first) holds.disk.bytes) (omega (arith, few)))
       ∙ ap (take (512 * count)) holds.bytes ∙ ap (λ (n : ℕ). take (512 * n) holds.part) count_is in
       sectors_served h o.disk o.idsig.first count holds.disk [] holds.there ends ∙ ap (λ (b : List ℕ). Some (Bytes b, h)) same
 
   refused : (faults : ℕ) → Refused (BlockRead o.disk o.idsig.first count) [] x y → DeviceOpens o x y (Err (fault.Failed faults))
-  refused faults r = record { right = λ h head m honest held holds.
-      let after = held_refused _ _ x y h held r in
-      (r.honest ∙ honest, after.0, absurd (not_both _ _ (after.1 honest) (served h head m holds))) }
+  refused faults r = record {
+    right = λ h head m honest held holds.
+        let after = held_refused _ _ x y h held r in
+        (r.honest ∙ honest, after.0, absurd (not_both _ _ (after.1 honest) (served h head m holds)));
+  }
 
   unheard : Unheard x y → DeviceOpens o x y (Err fault.Memory)
   unheard u = record { right = λ h head m honest held holds. (u.talked.honest ∙ honest, held_unheard x y h held u, refl) }
@@ -53,10 +62,12 @@ module _ (o : Opening) (count : ℕ) (count_is : count ≡ count_of o) (some : 1
 
   pub answered_right : IdsigsAreRead → (raw : List ℕ) (r : Result Device ApkFault) → Answered (BlockRead o.disk o.idsig.first count) [] (Bytes raw) x y
       → r ≡ opened o raw → DeviceOpens o x y r
-  answered_right read raw r a is = record { right = λ h head m honest held holds.
-      let device : Device = record { measure = m; layout = Parts o.disk o.apk.first (512 * o.idsig.first + head.tree_at) } in
-      let after = held_answered _ _ _ x y h held a in
-      let same = same_answer (take (512 * count_of o) holds.part) raw h after.0 _ (served h head m holds) after.2 in
-      let whole : r ≡ Ok device =
-      is ∙ ap (opened o) same.0 ∙ part_opens read o holds.part head m holds.whole holds.idsig holds.measure holds.tree in
-      (a.honest ∙ honest, after.1 ∙ ap Some same.1, subst (λ (z : Result Device ApkFault). OpensAs device z) (sym whole) refl) }
+  answered_right read raw r a is = record {
+    right = λ h head m honest held holds.
+        let device : Device = record { measure = m; layout = Parts o.disk o.apk.first (512 * o.idsig.first + head.tree_at) } in
+        let after = held_answered _ _ _ x y h held a in
+        let same = same_answer (take (512 * count_of o) holds.part) raw h after.0 _ (served h head m holds) after.2 in
+        let whole : r ≡ Ok device =
+        is ∙ ap (opened o) same.0 ∙ part_opens read o holds.part head m holds.whole holds.idsig holds.measure holds.tree in
+        (a.honest ∙ honest, after.1 ∙ ap Some same.1, subst (λ (z : Result Device ApkFault). OpensAs device z) (sym whole) refl);
+  }

@@ -105,12 +105,14 @@ fn device_of(
     requires idsig_end { idsig.first + idsig.sectors ≤ 2 ^ 40 }
     requires measure { IfSome measure (λ m. (2 ≤ m.now.blocks) × (m.now.blocks ≤ 1048576)) }
     requires few { length bytes.now ≤ 512 * min idsig.sectors 136 }
-    ensures value { result ≡ opened (opening disk apk idsig (option_copied measure.entry)) bytes.now }
+    ensures value { result ≡
+        opened (opening disk apk idsig (option_copied measure.entry)) bytes.now }
     ensures kept { IfSome measure.entry (λ m. IfOk result (λ d. d.measure ≡ m.now)) }
     ensures least { IfOk result (λ d. 2 ≤ d.measure.blocks) }
     ensures most { IfOk result (λ d. d.measure.blocks ≤ 1048576) }
     ensures suits { IfOk result (λ d. Suits d.layout d.measure.blocks) }
-    ensures inside { IfOk result (λ d. LiesIn (opening disk apk idsig (option_copied measure.entry)) d.measure.blocks d.layout) }
+    ensures inside { IfOk result (λ d.
+        LiesIn (opening disk apk idsig (option_copied measure.entry)) d.measure.blocks d.layout) }
 {
     let asked = 512 * idsig.sectors.min(136);
     let got = bytes.len() as u64;
@@ -165,7 +167,8 @@ pub fn open_apk<H: Host>(
     ensures least { IfOk result (λ d. 2 ≤ d.measure.blocks) }
     ensures most { IfOk result (λ d. d.measure.blocks ≤ 1048576) }
     ensures suits { IfOk result (λ d. Suits d.layout d.measure.blocks) }
-    ensures inside { IfOk result (λ d. LiesIn (opening disk apk idsig (option_copied measure.entry)) d.measure.blocks d.layout) }
+    ensures inside { IfOk result (λ d.
+        LiesIn (opening disk apk idsig (option_copied measure.entry)) d.measure.blocks d.layout) }
 {
     let count = idsig.sectors.min(136) as u32;
     match host.block_read(disk, idsig.first, count, raw) {

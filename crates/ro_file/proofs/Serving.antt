@@ -28,9 +28,11 @@ module _ (file : ℕ) (digest : Digest) (x y : Told) where
       descriptor_served h file holds.file [] holds.there ∙ ap (λ (b : List ℕ). Some (Bytes b, h)) whole
 
   refused : (faults : ℕ) → Refused (DescriptorOf file) [] x y → FileOpens file digest x y (Err (fault.Failed faults))
-  refused faults r = record { right = λ h d honest held holds.
-      let after = held_refused _ _ x y h held r in
-      (r.honest ∙ honest, after.0, absurd (not_both _ _ (after.1 honest) (served h d holds))) }
+  refused faults r = record {
+    right = λ h d honest held holds.
+        let after = held_refused _ _ x y h held r in
+        (r.honest ∙ honest, after.0, absurd (not_both _ _ (after.1 honest) (served h d holds)));
+  }
 
   unheard : Unheard x y → FileOpens file digest x y (Err fault.Memory)
   unheard u = record { right = λ h d honest held holds. (u.talked.honest ∙ honest, held_unheard x y h held u, refl) }
@@ -47,15 +49,19 @@ module _ (file : ℕ) (digest : Digest) (x y : Told) where
 
   pub answered_right : (raw : List ℕ) (r : Result MeasuredFile RoFault) → Answered (DescriptorOf file) [] (Bytes raw) x y → r ≡ opened file digest raw
       → FileOpens file digest x y r
-  answered_right raw r a is = record { right = λ h d honest held holds.
-      let after = held_answered _ _ _ x y h held a in
-      let same = same_answer (descriptor_bytes d) raw h after.0 _ (served h d holds) after.2 in
-      let whole : r ≡ Ok (file_of file d) = is ∙ ap (opened file digest) same.0 ∙ open_whole file digest d holds.sound holds.size holds.digest_is in
-      (a.honest ∙ honest, after.1 ∙ ap Some same.1, subst (λ (z : Result MeasuredFile RoFault). OpensAs file d z) (sym whole) refl) }
+  answered_right raw r a is = record {
+    right = λ h d honest held holds.
+        let after = held_answered _ _ _ x y h held a in
+        let same = same_answer (descriptor_bytes d) raw h after.0 _ (served h d holds) after.2 in
+        let whole : r ≡ Ok (file_of file d) = is ∙ ap (opened file digest) same.0 ∙ open_whole file digest d holds.sound holds.size holds.digest_is in
+        (a.honest ∙ honest, after.1 ∙ ap Some same.1, subst (λ (z : Result MeasuredFile RoFault). OpensAs file d z) (sym whole) refl);
+  }
 
 -- the size of a file that is held is its content's
 pub read_right : (f : MeasuredFile) (offset len : ℕ) (x y : Told) (bytes : List ℕ) (r : Result (Unit {0}) WalkFault)
     → RangeIsRight (layout_of f) f.measure f.size offset len x y bytes r → FileReadIsRight f offset len x y bytes r
-read_right f offset len x y bytes r step = record { right = λ h content honest held holds tree limit.
-    let after = step.right h content honest held holds tree limit in
-    (after.0, after.1, after.2 holds.size_is) }
+read_right f offset len x y bytes r step = record {
+  right = λ h content honest held holds tree limit.
+      let after = step.right h content honest held holds tree limit in
+      (after.0, after.1, after.2 holds.size_is);
+}

@@ -46,7 +46,8 @@ impl Model for RoFile {
 
     ghost view = { λ f. record { file = f.file; size = f.size; measure = f.measure } };
 
-    ghost invariant = { λ f. IsReadable (record { file = f.file; size = f.size; measure = f.measure }) };
+    ghost invariant = { λ f.
+        IsReadable (record { file = f.file; size = f.size; measure = f.measure }) };
 
     ghost inverse = { λ f. record { file = f.file; size = f.size; measure = f.measure } };
 }
@@ -155,9 +156,11 @@ impl RoFile {
         requires most { len ≤ 131072 }
         ensures did { Did (IsForRead (layout_of self.now) self.now.measure self.now.size at len)
             (most_answers self.now.measure self.now.size at len) (H.told host.old) (H.told host.new)
-            (RangeOutcome (layout_of self.now) self.now.measure self.now.size at len served.new result) }
+            (RangeOutcome (layout_of self.now) self.now.measure self.now.size at len
+            served.new result) }
         // Over an honest host that holds the content, its bytes or want of memory.
-        ensures held { FileReadIsRight self.now at len (H.told host.old) (H.told host.new) served.new result }
+        ensures held { FileReadIsRight self.now at len
+            (H.told host.old) (H.told host.new) served.new result }
     {
         let device = Device {
             measure: self.measure,

@@ -410,9 +410,7 @@ fn reads_whole_in_pieces(rt: HostRuntime) -> Result<(), Fail> {
     let salt = Salt::new(SALT).ok_or("salt")?;
     let digest = DIGESTS[4].1;
     let rows = [
-        (none, digest, 1u32),
-        (none, digest, 4095),
-        (none, digest, 65_536),
+        (none, digest, 4095u32),
         (none, digest, 131_072),
         (salt, SALTED, 4095),
     ];

@@ -38,14 +38,18 @@ module _ (layout : Layout) (count level index : ℕ) (a : Place) (level_is : lev
   -- the call failed, or there was no memory
   refused : (faults : ℕ) (p : List ℕ) → Refused (call_for layout count level index) [] x y
       → PageIsRight layout count a x y p (Err (fault.Failed faults))
-  refused faults p r m same = record { right = λ h content honest held holds tree limit.
-      let after = held_refused _ _ x y h held r in
-      let page = served m h content same holds tree limit in
-      (r.honest ∙ honest, after.0, λ anchored. absurd (not_both _ _ (after.1 honest) (by_call m h page.bytes same (page.served [])))) }
+  refused faults p r m same = record {
+    right = λ h content honest held holds tree limit.
+        let after = held_refused _ _ x y h held r in
+        let page = served m h content same holds tree limit in
+        (r.honest ∙ honest, after.0, λ anchored. absurd (not_both _ _ (after.1 honest) (by_call m h page.bytes same (page.served []))));
+  }
 
   unheard : (p : List ℕ) → Unheard x y → PageIsRight layout count a x y p (Err fault.Memory)
-  unheard p u m same = record { right = λ h content honest held holds tree limit.
-      (u.talked.honest ∙ honest, held_unheard x y h held u, λ anchored. refl) }
+  unheard p u m same = record {
+    right = λ h content honest held holds tree limit.
+        (u.talked.honest ∙ honest, held_unheard x y h held u, λ anchored. refl);
+  }
 
   pub failed_right : (raw : List ℕ) (e : HostError) → e ≡ Failed → Asked {T = Unit {0}} (call_for layout count level index) [] (λ _. Bytes raw) (Err e) x y
       → (faults : ℕ) (p : List ℕ) → PageIsRight layout count a x y p (Err (fault.Failed faults))
@@ -68,44 +72,60 @@ module _ (layout : Layout) (count level index : ℕ) (a : Place) (level_is : lev
     by_held m h content same honest held holds tree limit =
         let after = held_answered _ _ _ x y h held answer in
         let it = served m h content same holds tree limit in
-        let is = same_answer it.bytes raw h after.0 _ (by_call m h it.bytes same (it.served [])) after.2 in
-        (answer.honest ∙ honest, after.1 ∙ ap Some is.1, (
-          ap length is.0 ∙ it.len ∙ ap (λ (n : ℕ). asked_for layout n level index) same,
-          ap (piece_for layout count level index) is.0 ∙ ap (λ (n : ℕ). piece_for layout n level index it.bytes) (sym same) ∙ it.piece
-          ∙ ap (λ (l : ℕ). page content m.salt l index) level_is ∙ ap (page content m.salt a.level) index_is,
-        ))
+        let is = same_answer it.bytes raw h after.0 _ (by_call m h it.bytes same (it.served [])) after.2 in (
+          answer.honest ∙ honest,
+          after.1 ∙ ap Some is.1,
+          (
+            ap length is.0 ∙ it.len ∙ ap (λ (n : ℕ). asked_for layout n level index) same,
+            ap (piece_for layout count level index) is.0 ∙ ap (λ (n : ℕ). piece_for layout n level index it.bytes) (sym same) ∙ it.piece
+                ∙ ap (λ (l : ℕ). page content m.salt l index) level_is ∙ ap (page content m.salt a.level) index_is,
+          ),
+        )
 
     pub short_right : (p : List ℕ) → got < piece.asked → PageIsRight layout count a x y p (Err (fault.Short piece.asked got))
-    short_right p few m same = record { right = λ h content honest held holds tree limit.
-        let after = by_held m h content same honest held holds tree limit in
-        (after.0, after.1, λ anchored. absurd (omega (arith, after.2.0, placed.asked, got_is, few))) }
+    short_right p few m same = record {
+      right = λ h content honest held holds tree limit.
+          let after = by_held m h content same honest held holds tree limit in
+          (after.0, after.1, λ anchored. absurd (omega (arith, after.2.0, placed.asked, got_is, few)));
+    }
 
     module _ (p : List ℕ) (is : p ≡ padded (slice_range raw piece.from (piece.from + piece.len))) where
       right_page : (m : Measure) (content : List ℕ) → IsPage m content → p ≡ page content m.salt a.level a.index
       right_page m content so = is ∙ placed.is raw (so.0 ∙ sym placed.asked) ∙ so.1
 
       pub good_right : (u : Unit {0}) → PageIsRight layout count a x y p (Ok u)
-      good_right u m same = record { right = λ h content honest held holds tree limit.
-          let after = by_held m h content same honest held holds tree limit in
-          (after.0, after.1, λ anchored. right_page m content after.2) }
+      good_right u m same = record {
+        right = λ h content honest held holds tree limit.
+            let after = by_held m h content same honest held holds tree limit in
+            (after.0, after.1, λ anchored. right_page m content after.2);
+      }
 
       pub other_right : (w : Mismatch) → w.expected.0 ≢ w.found.0 → w.expected.0 ≡ a.digest → w.found.0 ≡ page_hash a.salt p
           → PageIsRight layout count a x y p (Err (fault.Mismatch w))
-      other_right w differ expected found m same = record { right = λ h content honest held holds tree limit.
-          let after = by_held m h content same honest held holds tree limit in
-          (after.0, after.1, λ anchored. absurd (differ (expected ∙ anchored.digest_is
-          ∙ ap (page_hash m.salt) (sym (right_page m content after.2)) ∙ ap (λ (s : List ℕ). page_hash s p) (sym anchored.salt_is) ∙ sym found))) }
+      other_right w differ expected found m same = record {
+        right = λ h content honest held holds tree limit.
+            let after = by_held m h content same honest held holds tree limit in (
+              after.0,
+              after.1,
+              λ anchored. absurd (differ (expected ∙ anchored.digest_is
+                  ∙ ap (page_hash m.salt) (sym (right_page m content after.2)) ∙ ap (λ (s : List ℕ). page_hash s p) (sym anchored.salt_is) ∙ sym found)),
+            );
+      }
 
 module _ (layout : Layout) (count : ℕ) (a : Place) (x y : Told) where
   -- the page is wrapped
   pub proved_right : (p : List ℕ) (u : Unit {0}) (q : Met) → q.page ≡ p → PageIsRight layout count a x y p (Ok u) → ProvedIsRight layout count a x y (Ok q)
-  proved_right p u q is step m same = record { right = λ h content honest held holds tree limit.
-      let after = (step m same).right h content honest held holds tree limit in
-      (after.0, after.1, λ anchored. is ∙ after.2 anchored) }
+  proved_right p u q is step m same = record {
+    right = λ h content honest held holds tree limit.
+        let after = (step m same).right h content honest held holds tree limit in
+        (after.0, after.1, λ anchored. is ∙ after.2 anchored);
+  }
 
   -- a slot of it is read
   pub below_right : (block k : ℕ) (q : Met) (b : Place) → k ≡ ancestor block (a.level - 1) % 128 → b.digest ≡ slot q.page k
       → ProvedIsRight layout count a x y (Ok q) → BelowIsRight layout count block a x y (Ok b)
-  below_right block k q b at is step m same = record { right = λ h content honest held holds tree limit.
-      let after = (step m same).right h content honest held holds tree limit in
-      (after.0, after.1, λ anchored. is ∙ ap (slot q.page) at ∙ ap (λ (p : List ℕ). slot p (ancestor block (a.level - 1) % 128)) (after.2 anchored)) }
+  below_right block k q b at is step m same = record {
+    right = λ h content honest held holds tree limit.
+        let after = (step m same).right h content honest held holds tree limit in
+        (after.0, after.1, λ anchored. is ∙ ap (slot q.page) at ∙ ap (λ (p : List ℕ). slot p (ancestor block (a.level - 1) % 128)) (after.2 anchored));
+  }

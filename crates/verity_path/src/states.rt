@@ -24,9 +24,11 @@ impl Model for Anchor {
 
     ghost Value = { Place };
 
-    ghost view = { λ a. record { salt = a.salt; level = a.level; index = a.index; digest = a.digest.0 } };
+    ghost view = { λ a.
+        record { salt = a.salt; level = a.level; index = a.index; digest = a.digest.0 } };
 
-    ghost inverse = { λ p. record { salt = p.salt; level = p.level; index = p.index; digest = record { 0 = p.digest } } };
+    ghost inverse = { λ p.
+        record { salt = p.salt; level = p.level; index = p.index; digest = record { 0 = p.digest } } };
 }
 
 impl Clone for Anchor {
@@ -43,7 +45,12 @@ impl Anchor {
     /// What the top page of a measure must have: None exactly where the measure has no blocks. It takes no memory.
     pub fn measured(measure: &Measure) -> Option<Anchor>
         ensures variant { IsSome result ↔ (0 < measure.now.blocks) }
-        ensures value { IfSome result (λ a. a ≡ record { salt = measure.now.salt; level = top measure.now.blocks; index = 0; digest = measure.now.root.0 }) }
+        ensures value { IfSome result (λ a. a ≡ record {
+          salt = measure.now.salt;
+          level = top measure.now.blocks;
+          index = 0;
+          digest = measure.now.root.0;
+        }) }
     {
         if measure.blocks == 0 {
             return None;

@@ -62,7 +62,8 @@ pub fn fetch_page<H: Host>(
         (H.told host.old) (H.told host.new)
         (FetchOutcome layout.now geometry.now anchor.now page.old page.new result) }
     // Over an honest host that holds the content, its page or want of memory.
-    ensures held { PageIsRight layout.now geometry.now anchor.now (H.told host.old) (H.told host.new) page.new result }
+    ensures held { PageIsRight layout.now geometry.now anchor.now
+        (H.told host.old) (H.told host.new) page.new result }
 {
     let level = anchor.level();
     let index = anchor.index();
@@ -103,7 +104,8 @@ fn fetch<'a, H: Host>(
     ensures did { Did (IsCallFor layout.now geometry.now anchor.now.level anchor.now.index) 1
         (H.told host.old) (H.told host.new)
         (ProvedOutcome layout.now geometry.now anchor.now result) }
-    ensures held { ProvedIsRight layout.now geometry.now anchor.now (H.told host.old) (H.told host.new) result }
+    ensures held { ProvedIsRight layout.now geometry.now anchor.now
+        (H.told host.old) (H.told host.new) result }
 {
     match fetch_page(host, layout, geometry, anchor, raw, page) {
         Ok(()) => Ok(Proved::new(page, anchor)),
@@ -129,7 +131,8 @@ fn descend<H: Host>(
     ensures did { Did (IsCallFor layout.now geometry.now anchor.now.level anchor.now.index) 1
         (H.told host.old) (H.told host.new)
         (DescentOutcome layout.now geometry.now block anchor.now result) }
-    ensures held { BelowIsRight layout.now geometry.now block anchor.now (H.told host.old) (H.told host.new) result }
+    ensures held { BelowIsRight layout.now geometry.now block anchor.now
+        (H.told host.old) (H.told host.new) result }
 {
     let slot = ancestor_of(block, anchor.level() - 1) % 128;
     match fetch(host, layout, geometry, anchor, raw, page) {
@@ -154,7 +157,8 @@ pub fn walk_page<'a, H: Host>(
     ensures did { Did (IsOnPath layout.now measure.now index) (top measure.now.blocks + 1)
         (H.told host.old) (H.told host.new) (WalkOutcome layout.now measure.now index result) }
     // Over an honest host that holds the content, its block or want of memory.
-    ensures held { WalkIsRight layout.now measure.now index (H.told host.old) (H.told host.new) result }
+    ensures held { WalkIsRight layout.now measure.now index
+        (H.told host.old) (H.told host.new) result }
 {
     let Some(geometry) = Geometry::new(measure.blocks) else {
         unreachable!()
