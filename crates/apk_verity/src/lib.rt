@@ -6,12 +6,13 @@
 ghost use Rattle.std.specs.Prelude.{◌≡◌, ◌+◌, ◌*◌, ◌^◌, ◌≤◌, ◌<◌, min, length, IfOk, IfSome, option_copied};
 ghost use Rattle.host_traits.specs.Did.{Did};
 ghost use Rattle.verity_path.specs.Calls.{Suits};
+ghost use Rattle.apk_verity.specs.Holding.{DeviceOpens};
 ghost use Rattle.apk_verity.specs.Opening.{opening, IsIdsigCall, OpenOutcome, first_measure, kept_measure, measure_of, opened, LiesIn, DevicesOpen};
 
-use host_traits::{Host, HostError};
+use host_traits::{Host, HostError, Raw};
 use idsig_v4::{Head, IdsigFault, idsigs_are_read, read_head};
 use mg_base::{Digest, Span};
-use verity_path::{Buffers, Device, Layout, Measure};
+use verity_path::{Device, Layout, Measure};
 
 /// Why a device was not opened.
 #[derive(Clone, Copy, Debug, PartialEq, Eq)]
@@ -104,12 +105,14 @@ fn device_of(
     requires idsig_end { idsig.first + idsig.sectors ≤ 2 ^ 40 }
     requires measure { IfSome measure (λ m. (2 ≤ m.now.blocks) × (m.now.blocks ≤ 1048576)) }
     requires few { length bytes.now ≤ 512 * min idsig.sectors 136 }
-    ensures value { result ≡ opened (opening disk apk idsig (option_copied measure.entry)) bytes.now }
+    ensures value { result ≡
+        opened (opening disk apk idsig (option_copied measure.entry)) bytes.now }
     ensures kept { IfSome measure.entry (λ m. IfOk result (λ d. d.measure ≡ m.now)) }
     ensures least { IfOk result (λ d. 2 ≤ d.measure.blocks) }
     ensures most { IfOk result (λ d. d.measure.blocks ≤ 1048576) }
     ensures suits { IfOk result (λ d. Suits d.layout d.measure.blocks) }
-    ensures inside { IfOk result (λ d. LiesIn (opening disk apk idsig (option_copied measure.entry)) d.measure.blocks d.layout) }
+    ensures inside { IfOk result (λ d.
+        LiesIn (opening disk apk idsig (option_copied measure.entry)) d.measure.blocks d.layout) }
 {
     let asked = 512 * idsig.sectors.min(136);
     let got = bytes.len() as u64;
@@ -144,7 +147,7 @@ pub fn open_apk<H: Host>(
     apk: Span,
     idsig: Span,
     measure: Option<&Measure>,
-    buf: &mut Buffers,
+    raw: &mut Raw,
 ) -> Result<Device, ApkFault>
     requires apk_some { 1 ≤ apk.sectors }
     requires apk_end { apk.first + apk.sectors ≤ 2 ^ 40 }
@@ -152,18 +155,23 @@ pub fn open_apk<H: Host>(
     requires idsig_end { idsig.first + idsig.sectors ≤ 2 ^ 40 }
     requires measure { IfSome measure (λ m. (2 ≤ m.now.blocks) × (m.now.blocks ≤ 1048576)) }
     // The one call, and what came of it.
-    ensures opened { Did (IsIdsigCall (opening disk apk idsig (option_copied measure.entry))) 1 (H.told host.old) (H.told host.new)
+    ensures opened { Did (IsIdsigCall (opening disk apk idsig (option_copied measure.entry))) 1
+        (H.told host.old) (H.told host.new)
         (OpenOutcome (opening disk apk idsig (option_copied measure.entry)) result) }
+    // Over an honest host that holds the idsig, the device or want of memory.
+    ensures held { DeviceOpens (opening disk apk idsig (option_copied measure.entry))
+        (H.told host.old) (H.told host.new) result }
     // A measure that has to be met is the device's.
     ensures kept { IfSome measure.entry (λ m. IfOk result (λ d. d.measure ≡ m.now)) }
     // A device can be read, and lies in its two parts.
     ensures least { IfOk result (λ d. 2 ≤ d.measure.blocks) }
     ensures most { IfOk result (λ d. d.measure.blocks ≤ 1048576) }
     ensures suits { IfOk result (λ d. Suits d.layout d.measure.blocks) }
-    ensures inside { IfOk result (λ d. LiesIn (opening disk apk idsig (option_copied measure.entry)) d.measure.blocks d.layout) }
+    ensures inside { IfOk result (λ d.
+        LiesIn (opening disk apk idsig (option_copied measure.entry)) d.measure.blocks d.layout) }
 {
     let count = idsig.sectors.min(136) as u32;
-    match host.block_read(disk, idsig.first, count, &mut buf.raw) {
+    match host.block_read(disk, idsig.first, count, raw) {
         Ok(()) => {}
         Err(HostError::Failed) => {
             let faults = host.faults();
@@ -171,7 +179,7 @@ pub fn open_apk<H: Host>(
         }
         Err(HostError::Memory) => return Err(ApkFault::Memory),
     }
-    device_of(disk, apk, idsig, measure, buf.raw.layout())
+    device_of(disk, apk, idsig, measure, raw.layout())
 }
 
 /// A part that begins with an idsig of a measure makes its device. Its contract is the law; it does nothing.

@@ -2,3 +2,4 @@ pub mod Talking
 pub mod Doing
 pub mod Exact
 pub mod Places
+pub mod Holding

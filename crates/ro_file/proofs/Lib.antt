@@ -1,3 +1,4 @@
 pub mod Rules
 pub mod Standing
 pub mod Opens
+pub mod Serving

@@ -3,15 +3,16 @@ ghost use Rattle.std.specs.Prelude.{◌≡◌, ℕ, ◌≤◌, List, [], length,
 ghost use Rattle.host_traits.specs.Did.{Did};
 ghost use Rattle.verity_path.specs.Range.{most_answers, IsForRead, RangeOutcome};
 ghost use Rattle.ro_file.specs.Files.{IsReadable, layout_of};
+ghost use Rattle.ro_file.specs.Holding.{FileOpens, FileReadIsRight};
 ghost use Rattle.ro_file.specs.Opening.{IsDescriptorCall, OpenFileOutcome, Describes, opened};
 
-use host_traits::{Host, HostError};
-use mg_base::Digest;
+use host_traits::{Host, HostError, Raw};
+use mg_base::{Digest, Page};
 use sha2::{Digest as _, Sha256};
 use std::alloc::AllocError;
 use std::marker::Model;
 use verity_descriptor::{DescriptorFault, decode};
-use verity_path::{Buffers, Layout, Measure, Served, WalkFault, read_range};
+use verity_path::{Device, Layout, Measure, Served, WalkFault, read_range};
 
 /// Why a file was not opened.
 #[derive(Clone, Copy, Debug, PartialEq, Eq)]
@@ -45,7 +46,8 @@ impl Model for RoFile {
 
     ghost view = { λ f. record { file = f.file; size = f.size; measure = f.measure } };
 
-    ghost invariant = { λ f. IsReadable (record { file = f.file; size = f.size; measure = f.measure }) };
+    ghost invariant = { λ f.
+        IsReadable (record { file = f.file; size = f.size; measure = f.measure }) };
 
     ghost inverse = { λ f. record { file = f.file; size = f.size; measure = f.measure } };
 }
@@ -107,11 +109,15 @@ pub fn open_file<H: Host>(
     host: &mut H,
     file: u32,
     digest: &Digest,
-    buf: &mut Buffers,
+    raw: &mut Raw,
 ) -> Result<RoFile, RoFault>
-    ensures { Did (IsDescriptorCall file) 1 (H.told host.old) (H.told host.new) (OpenFileOutcome file digest.now result) }
+    // The one call, and what came of it.
+    ensures did { Did (IsDescriptorCall file) 1 (H.told host.old) (H.told host.new)
+        (OpenFileOutcome file digest.now result) }
+    // Over an honest host that holds a file with this digest, the file or want of memory.
+    ensures held { FileOpens file digest.now (H.told host.old) (H.told host.new) result }
 {
-    match host.file_descriptor(file, &mut buf.raw) {
+    match host.file_descriptor(file, raw) {
         Ok(()) => {}
         Err(HostError::Failed) => {
             let faults = host.faults();
@@ -119,7 +125,7 @@ pub fn open_file<H: Host>(
         }
         Err(HostError::Memory) => return Err(RoFault::Memory),
     }
-    described(file, digest, buf.raw.layout())
+    described(file, digest, raw.layout())
 }
 
 impl RoFile {
@@ -142,20 +148,27 @@ impl RoFile {
         host: &mut H,
         at: u64,
         len: u32,
-        buf: &mut Buffers,
+        raw: &mut Raw,
+        page: &mut Page,
         served: &mut Served,
     ) -> Result<(), WalkFault>
         requires empty { served.old ≡ [] }
         requires most { len ≤ 131072 }
-        ensures { Did (IsForRead (layout_of self.now) self.now.measure self.now.size at len) (most_answers self.now.measure self.now.size at len) (H.told host.old) (H.told host.new)
-            (RangeOutcome (layout_of self.now) self.now.measure self.now.size at len served.new result) }
+        ensures did { Did (IsForRead (layout_of self.now) self.now.measure self.now.size at len)
+            (most_answers self.now.measure self.now.size at len) (H.told host.old) (H.told host.new)
+            (RangeOutcome (layout_of self.now) self.now.measure self.now.size at len
+            served.new result) }
+        // Over an honest host that holds the content, its bytes or want of memory.
+        ensures held { FileReadIsRight self.now at len
+            (H.told host.old) (H.told host.new) served.new result }
     {
-        let size = self.size;
-        let layout = Layout::File {
-            file: self.file,
-            size,
+        let device = Device {
+            measure: self.measure,
+            layout: Layout::File {
+                file: self.file,
+                size: self.size,
+            },
         };
-        let measure = &self.measure;
-        read_range(host, &layout, measure, size, at, len, buf, served)
+        read_range(host, &device, self.size, at, len, raw, page, served)
     }
 }

@@ -5,3 +5,4 @@ pub mod Steps
 pub mod Walk
 pub mod Range
 pub mod Lies
+pub mod Holding

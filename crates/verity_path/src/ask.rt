@@ -52,7 +52,8 @@ fn ask_file<H: Host>(
     raw: &mut Raw,
 ) -> Result<(), HostError>
     requires within { level ≡ 0 → 4096 * index < size }
-    ensures asked { Asked (file_call file size level index) [] (λ _. Bytes raw.new) result (H.told host.old) (H.told host.new) }
+    ensures asked { Asked (file_call file size level index) [] (λ _. Bytes raw.new) result
+        (H.told host.old) (H.told host.new) }
     ensures fills { Fills (file_asked size level index) result raw.new }
 {
     if level == 0 {
@@ -78,7 +79,8 @@ fn ask_parts<H: Host>(
     requires within { index < pages_at geometry.now level }
     requires blocks { first + 8 * index < 2 ^ 64 }
     requires room { tree + 4096 * tree_pages geometry.now < 2 ^ 64 }
-    ensures asked { Asked (parts_call disk first tree geometry.now level index) [] (λ _. Bytes raw.new) result (H.told host.old) (H.told host.new) }
+    ensures asked { Asked (parts_call disk first tree geometry.now level index) [] (λ _. Bytes raw.new) result
+        (H.told host.old) (H.told host.new) }
     ensures fills { Fills (parts_asked tree geometry.now level index) result raw.new }
 {
     if level == 0 {
@@ -102,7 +104,8 @@ pub(crate) fn ask<H: Host>(
     requires low { level ≤ top geometry.now }
     requires within { index < pages_at geometry.now level }
     requires suits { Suits layout.now geometry.now }
-    ensures asked { Asked (call_for layout.now geometry.now level index) [] (λ _. Bytes raw.new) result (H.told host.old) (H.told host.new) }
+    ensures asked { Asked (call_for layout.now geometry.now level index) [] (λ _. Bytes raw.new) result
+        (H.told host.old) (H.told host.new) }
     ensures fills { Fills (asked_for layout.now geometry.now level index) result raw.new }
 {
     match *layout {
@@ -118,7 +121,8 @@ fn page_offset(tree: u64, geometry: &Geometry, level: u32, index: u64) -> u64
     requires low { level ≤ top geometry.now }
     requires within { index < pages_at geometry.now level }
     requires room { tree + 4096 * tree_pages geometry.now < 2 ^ 64 }
-    ensures value { result ≡ (if level == 0 then 0 else tree_byte tree geometry.now level index % 512) }
+    ensures value { result ≡
+        (if level == 0 then 0 else tree_byte tree geometry.now level index % 512) }
     ensures small { result < 512 }
 {
     if level == 0 {

@@ -1,5 +1,5 @@
 // The digests that pages must have, and pages that have them.
-ghost use Rattle.std.specs.Prelude.{◌≡◌, ◌≢◌, ℕ, ◌+◌, ◌-◌, ◌*◌, ◌^◌, ◌≤◌, ◌<◌, List, length, IfOk, IfErr, IfSome, IsSome, ◌↔◌, slice_range};
+ghost use Rattle.std.specs.Prelude.{◌≡◌, ◌≢◌, ℕ, ◌+◌, ◌-◌, ◌*◌, ◌^◌, ◌≤◌, ◌<◌, List, length, IfOk, IfErr, OnOk, IfSome, IsSome, ◌↔◌, slice_range};
 ghost use Rattle.sha_tree.specs.Tree.{page_hash, padded, slot as page_slot, top};
 ghost use Rattle.verity_path.specs.States.{Place, Met, IsMet};
 
@@ -24,9 +24,11 @@ impl Model for Anchor {
 
     ghost Value = { Place };
 
-    ghost view = { λ a. record { salt = a.salt; level = a.level; index = a.index; digest = a.digest.0 } };
+    ghost view = { λ a.
+        record { salt = a.salt; level = a.level; index = a.index; digest = a.digest.0 } };
 
-    ghost inverse = { λ p. record { salt = p.salt; level = p.level; index = p.index; digest = record { 0 = p.digest } } };
+    ghost inverse = { λ p.
+        record { salt = p.salt; level = p.level; index = p.index; digest = record { 0 = p.digest } } };
 }
 
 impl Clone for Anchor {
@@ -43,7 +45,12 @@ impl Anchor {
     /// What the top page of a measure must have: None exactly where the measure has no blocks. It takes no memory.
     pub fn measured(measure: &Measure) -> Option<Anchor>
         ensures variant { IsSome result ↔ (0 < measure.now.blocks) }
-        ensures value { IfSome result (λ a. a ≡ record { salt = measure.now.salt; level = top measure.now.blocks; index = 0; digest = measure.now.root.0 }) }
+        ensures value { IfSome result (λ a. a ≡ record {
+          salt = measure.now.salt;
+          level = top measure.now.blocks;
+          index = 0;
+          digest = measure.now.root.0;
+        }) }
     {
         if measure.blocks == 0 {
             return None;
@@ -98,7 +105,7 @@ pub struct Mismatch {
 
 /// A page whose hash is its anchor's digest. Contracts see the page and the anchor.
 ///
-/// Only `check` makes one, and the page can't be written while it lives.
+/// It is made only where the hash was compared, and the page can't be written while it lives.
 #[derive(Drop)]
 pub struct Proved<'a> {
     page: &'a Page,
@@ -113,6 +120,38 @@ impl<'a> Model for Proved<'a> {
     ghost view = { λ p. record { page = p.page.now; anchor = p.anchor } };
 
     ghost invariant = { λ p. IsMet (record { page = p.page.now; anchor = p.anchor }) };
+}
+
+/// Pads a piece of an answer with zeros into the page: is its hash the anchor's digest? The page keeps the piece, and is left
+/// to be used again. It takes no memory.
+pub fn meets(
+    raw: &Raw,
+    from: usize,
+    len: usize,
+    anchor: &Anchor,
+    page: &mut Page,
+) -> Result<(), Mismatch>
+    requires within { from + len ≤ length raw.now }
+    requires fits { len ≤ 4096 }
+    ensures page { page.new ≡ padded (slice_range raw.now from (from + len)) }
+    ensures met { OnOk result (page_hash anchor.now.salt page.new ≡ anchor.now.digest) }
+    ensures differs { IfErr result (λ e. e.expected.0 ≢ e.found.0) }
+    ensures expected { IfErr result (λ e. e.expected.0 ≡ anchor.now.digest) }
+    ensures found { IfErr result (λ e. e.found.0 ≡ page_hash anchor.now.salt page.new) }
+    ensures level { IfErr result (λ e. e.level ≡ anchor.now.level) }
+    ensures index { IfErr result (λ e. e.index ≡ anchor.now.index) }
+{
+    pad_into(&raw.layout()[from..from + len], page);
+    let found = hash_page(&anchor.salt, page);
+    if anchor.digest != found {
+        return Err(Mismatch {
+            level: anchor.level,
+            index: anchor.index,
+            expected: anchor.digest,
+            found,
+        });
+    }
+    Ok(())
 }
 
 /// Pads a piece of an answer with zeros into the page, and proves the page where its hash is the anchor's digest.
@@ -131,22 +170,29 @@ pub fn check<'a>(
     ensures met { IfOk result IsMet }
     ensures differs { IfErr result (λ e. e.expected.0 ≢ e.found.0) }
     ensures expected { IfErr result (λ e. e.expected.0 ≡ anchor.now.digest) }
-    ensures found { IfErr result (λ e. e.found.0 ≡ page_hash anchor.now.salt (padded (slice_range raw.now from (from + len)))) }
+    ensures found { IfErr result (λ e.
+        e.found.0 ≡ page_hash anchor.now.salt (padded (slice_range raw.now from (from + len)))) }
     ensures level { IfErr result (λ e. e.level ≡ anchor.now.level) }
     ensures index { IfErr result (λ e. e.index ≡ anchor.now.index) }
 {
-    pad_into(&raw.layout()[from..from + len], page);
-    let anchor = *anchor;
-    let found = hash_page(&anchor.salt, page);
-    if anchor.digest != found {
-        return Err(Mismatch {
-            level: anchor.level,
-            index: anchor.index,
-            expected: anchor.digest,
-            found,
-        });
+    match meets(raw, from, len, anchor, page) {
+        Ok(()) => Ok(Proved::new(page, anchor)),
+        Err(mismatch) => Err(mismatch),
     }
-    Ok(Proved { page, anchor })
+}
+
+impl<'a> Proved<'a> {
+    // A page whose hash was compared.
+    pub(crate) fn new(page: &'a Page, anchor: &Anchor) -> Proved<'a>
+        requires met { page_hash anchor.now.salt page.now ≡ anchor.now.digest }
+        ensures page { result.page ≡ page.now }
+        ensures anchor { result.anchor ≡ anchor.now }
+    {
+        Proved {
+            page,
+            anchor: *anchor,
+        }
+    }
 }
 
 impl<'a> Proved<'a> {
