@@ -71,8 +71,9 @@ module _ (o : Opening) (bytes : List ℕ) where
       heard_then (measure_of o.apk o.measure h) _ (heard_measure o.apk o.measure h) (λ m.
       heard_then (of_idsig (tree_fits h m.blocks)) _ (heard_idsig (tree_fits h m.blocks)) (λ v. tt))))
 
-short_is : (o : Opening) (bytes : List ℕ) (t : Trace) (asked got : ℕ) → t.own ≡ (idsig_call o, Bytes bytes) ∷ [] → (asked ≡ 512 * count_of o) × (got ≡ length bytes) × (got < asked) → IsShort t asked got
-short_is o bytes t asked got own h = record {
+short_is : (o : Opening) (bytes : List ℕ) (t : Trace) (asked got : ℕ) → t.failed ≡ 0 → t.own ≡ (idsig_call o, Bytes bytes) ∷ [] → (asked ≡ 512 * count_of o) × (got ≡ length bytes) × (got < asked) → IsShort t asked got
+short_is o bytes t asked got failed own h = record {
+  failed = failed;
   call = idsig_call o;
   bytes = bytes;
   own = subst (λ (x : Exchanges). IsIn (idsig_call o) (Bytes bytes) x) (sym own) (inl refl);
@@ -84,7 +85,7 @@ short_is o bytes t asked got own h = record {
 outcome_of : (o : Opening) (r : Result Device ApkFault) (t : Trace) (i : IsOpened o r t) → IsHeard o i.bytes r → OpenOutcome o r t
 outcome_of o (Ok d) t i h = i
 outcome_of o (Err (Failed faults)) t i h = absurd h
-outcome_of o (Err (Short asked got)) t i h = (i, short_is o i.bytes t asked got i.own h)
+outcome_of o (Err (Short asked got)) t i h = (i, short_is o i.bytes t asked got i.failed i.own h)
 outcome_of o (Err (Idsig fault)) t i h = i
 outcome_of o (Err SaltMismatch) t i h = i
 outcome_of o (Err (RootMismatch expected found)) t i h = i
@@ -97,7 +98,7 @@ made : (o : Opening) (r : Result Device ApkFault) (raw : List ℕ) (old new : To
     → length raw ≤ 512 * count_of o → r ≡ opened o raw → Did (IsIdsigCall o) 1 old new (OpenOutcome o r)
 made o r raw old new a few is =
     did_answered (IsIdsigCall o) (idsig_call o) (Bytes raw) old new (OpenOutcome o r) (record { call_is = refl }) a
-    (outcome_of o r _ (record { bytes = raw; own = refl; few = few; is = is }) (subst (λ (x : Result Device ApkFault). IsHeard o raw x) (sym is) (heard_opened o raw)))
+    (outcome_of o r _ (record { failed = refl; bytes = raw; own = refl; few = few; is = is }) (subst (λ (x : Result Device ApkFault). IsHeard o raw x) (sym is) (heard_opened o raw)))
 
 -- the call was answered by these bytes
 pub answered : (o : Opening) (count : ℕ) → count ≡ count_of o → (r : Result Device ApkFault) (raw : List ℕ) (old new : Told)

@@ -1,11 +1,11 @@
 -- Opening an APK device: the one call, and what comes of each answer.
-use Rattle.std.specs.Prelude.{true, ◌≡◌, ℕ, ◌+◌, ◌*◌, ◌/◌, ◌≤◌, min, List, [], ◌∷◌, length, take, Option, Some, None, Result, Ok, Err, nat_lt, not, if◌then◌else◌}
+use Rattle.std.specs.Prelude.{◌≡◌, ℕ, ◌+◌, ◌*◌, ◌/◌, ◌≤◌, min, List, [], ◌∷◌, length, take, Option, Some, None, Result, Ok, Err, nat_lt, not, if◌then◌else◌}
 use Rattle.std.specs.Str.{bytes_eq}
 use Rattle.mg_base.specs.declared.values.Span.{Span}
 use Rattle.host_traits.specs.declared.calls.Call.{Call}
 use Rattle.host_traits.specs.declared.calls.Call.TheVariants.{BlockRead}
 use Rattle.host_traits.specs.declared.calls.Said.TheVariants.{Bytes}
-use Rattle.host_traits.specs.Did.{Trace, IsShort, IsFailed}
+use Rattle.host_traits.specs.Did.{Trace, IsShort, IsFailed, IsScarce}
 use Rattle.sha_tree.specs.declared.measure.Measure.{Measure}
 use Rattle.sha_tree.specs.Tree.{tree_pages}
 use Rattle.verity_path.specs.declared.device.Device.{Device}
@@ -103,8 +103,9 @@ DevicesOpen = (o : Opening) (part : List ℕ) (h : Head) (m : Measure) → lengt
 
 -- ---- what came of the call
 
--- it was answered, and this is what the answer makes
+-- it was answered, no call failed, and this is what the answer makes
 pub record IsOpened (o : Opening) (result : Result Device ApkFault) (t : Trace) : Type 0 where
+  pub failed : t.failed ≡ 0
   pub bytes : List ℕ
   pub own : t.own ≡ (idsig_call o, Bytes bytes) ∷ []
   pub few : length bytes ≤ 512 * count_of o
@@ -114,5 +115,5 @@ pub record IsOpened (o : Opening) (result : Result Device ApkFault) (t : Trace) 
 abbrev pub OpenOutcome : Opening → Result Device ApkFault → Trace → Type 0
 OpenOutcome o (Err (Failed faults)) t = (t.own ≡ []) × IsFailed (IsIdsigCall o) t faults
 OpenOutcome o (Err (Short asked got)) t = IsOpened o (Err (Short asked got)) t × IsShort t asked got
-OpenOutcome o (Err Memory) t = (t.own ≡ []) × (t.scarce ≡ true)
+OpenOutcome o (Err Memory) t = (t.own ≡ []) × IsScarce t
 OpenOutcome o result t = IsOpened o result t

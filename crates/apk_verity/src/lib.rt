@@ -8,10 +8,10 @@ ghost use Rattle.host_traits.specs.Did.{Did};
 ghost use Rattle.verity_path.specs.Calls.{Suits};
 ghost use Rattle.apk_verity.specs.Opening.{opening, IsIdsigCall, OpenOutcome, first_measure, kept_measure, measure_of, opened, LiesIn, DevicesOpen};
 
-use host_traits::{Host, HostError};
+use host_traits::{Host, HostError, Raw};
 use idsig_v4::{Head, IdsigFault, idsigs_are_read, read_head};
 use mg_base::{Digest, Span};
-use verity_path::{Buffers, Device, Layout, Measure};
+use verity_path::{Device, Layout, Measure};
 
 /// Why a device was not opened.
 #[derive(Clone, Copy, Debug, PartialEq, Eq)]
@@ -144,7 +144,7 @@ pub fn open_apk<H: Host>(
     apk: Span,
     idsig: Span,
     measure: Option<&Measure>,
-    buf: &mut Buffers,
+    raw: &mut Raw,
 ) -> Result<Device, ApkFault>
     requires apk_some { 1 ≤ apk.sectors }
     requires apk_end { apk.first + apk.sectors ≤ 2 ^ 40 }
@@ -163,7 +163,7 @@ pub fn open_apk<H: Host>(
     ensures inside { IfOk result (λ d. LiesIn (opening disk apk idsig (option_copied measure.entry)) d.measure.blocks d.layout) }
 {
     let count = idsig.sectors.min(136) as u32;
-    match host.block_read(disk, idsig.first, count, &mut buf.raw) {
+    match host.block_read(disk, idsig.first, count, raw) {
         Ok(()) => {}
         Err(HostError::Failed) => {
             let faults = host.faults();
@@ -171,7 +171,7 @@ pub fn open_apk<H: Host>(
         }
         Err(HostError::Memory) => return Err(ApkFault::Memory),
     }
-    device_of(disk, apk, idsig, measure, buf.raw.layout())
+    device_of(disk, apk, idsig, measure, raw.layout())
 }
 
 /// A part that begins with an idsig of a measure makes its device. Its contract is the law; it does nothing.

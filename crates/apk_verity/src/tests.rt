@@ -142,13 +142,6 @@ fn disk(alloc: Global) -> Result<(TestHost, Digest), Fail> {
     Ok((TestHost { disk: bytes }, tree.root))
 }
 
-fn buffers(alloc: Global) -> Result<Buffers, Fail> {
-    Ok(Buffers {
-        raw: Raw::new(alloc)?,
-        page: Page::new(alloc)?,
-    })
-}
-
 fn measure(blocks: u64, salt: &Salt, root: Digest) -> Measure
     ensures { result.blocks ≡ blocks }
 {
@@ -165,7 +158,7 @@ fn open(
     sectors: u64,
     idsig: Span,
     given: Option<&Measure>,
-    buf: &mut Buffers,
+    raw: &mut Raw,
 ) -> Result<u64, ApkFault>
     requires some { 1 ≤ sectors }
     requires few { sectors ≤ 100000000 }
@@ -174,7 +167,7 @@ fn open(
     requires given { IfSome given (λ m. (2 ≤ m.now.blocks) × (m.now.blocks ≤ 1048576)) }
 {
     let apk = Span { first: 40, sectors };
-    match open_apk(host, 3, apk, idsig, given, buf) {
+    match open_apk(host, 3, apk, idsig, given, raw) {
         Ok(device) => Ok(device.measure.blocks),
         Err(fault) => Err(fault),
     }
@@ -184,7 +177,7 @@ fn open(
 #[test]
 fn opens_by_what_the_host_says(rt: HostRuntime) -> Result<(), Fail> {
     let (mut host, root) = disk(rt.alloc())?;
-    let mut buf = buffers(rt.alloc())?;
+    let mut raw = Raw::new(rt.alloc())?;
     let idsig = Span {
         first: 2440,
         sectors: 40,
@@ -205,14 +198,14 @@ fn opens_by_what_the_host_says(rt: HostRuntime) -> Result<(), Fail> {
             Err(ApkFault::TooManyBlocks { blocks: 1_048_577 }),
         ),
     ] {
-        let found = open(&mut host, sectors, idsig, None, &mut buf);
+        let found = open(&mut host, sectors, idsig, None, &mut raw);
         assert_eq!(rt; found, want, "{sectors} sectors");
     }
     let apk = Span {
         first: 40,
         sectors: 2400,
     };
-    let Ok(device) = open_apk(&mut host, 3, apk, idsig, None, &mut buf) else {
+    let Ok(device) = open_apk(&mut host, 3, apk, idsig, None, &mut raw) else {
         return Err("not opened")?;
     };
     assert_eq!(rt; device.measure.root, root);
@@ -229,12 +222,12 @@ fn opens_by_what_the_host_says(rt: HostRuntime) -> Result<(), Fail> {
     let mut served = Served::new(rt.alloc())?;
     let read = read_range(
         &mut host,
-        &device.layout,
-        &device.measure,
+        &device,
         4096 * device.measure.blocks,
         1_228_790,
         100,
-        &mut buf,
+        &mut raw,
+        &mut Page::new(rt.alloc())?,
         &mut served,
     );
     assert_eq!(rt; read, Ok(()));
@@ -247,7 +240,7 @@ fn opens_by_what_the_host_says(rt: HostRuntime) -> Result<(), Fail> {
 #[test]
 fn keeps_the_measure(rt: HostRuntime) -> Result<(), Fail> {
     let (mut host, root) = disk(rt.alloc())?;
-    let mut buf = buffers(rt.alloc())?;
+    let mut raw = Raw::new(rt.alloc())?;
     let idsig = Span {
         first: 2440,
         sectors: 40,
@@ -278,7 +271,7 @@ fn keeps_the_measure(rt: HostRuntime) -> Result<(), Fail> {
         (measure(301, &salt, other), Err(ApkFault::SaltMismatch)),
     ] {
         assert!(rt; m.blocks > 1 && m.blocks < 1000);
-        let found = open(&mut host, 2400, idsig, Some(&m), &mut buf);
+        let found = open(&mut host, 2400, idsig, Some(&m), &mut raw);
         assert_eq!(rt; found, want, "{} blocks", m.blocks);
     }
     Ok(())
@@ -288,7 +281,7 @@ fn keeps_the_measure(rt: HostRuntime) -> Result<(), Fail> {
 #[test]
 fn tells_what_the_idsig_breaks(rt: HostRuntime) -> Result<(), Fail> {
     let (mut host, _root) = disk(rt.alloc())?;
-    let mut buf = buffers(rt.alloc())?;
+    let mut raw = Raw::new(rt.alloc())?;
     for (first, sectors, want) in [
         (
             2470,
@@ -302,7 +295,7 @@ fn tells_what_the_idsig_breaks(rt: HostRuntime) -> Result<(), Fail> {
         (0, 40, ApkFault::Idsig(IdsigFault::Version { found: 0 })),
     ] {
         let idsig = Span { first, sectors };
-        let found = open(&mut host, 2400, idsig, None, &mut buf);
+        let found = open(&mut host, 2400, idsig, None, &mut raw);
         assert_eq!(rt; found, Err(want));
     }
     Ok(())

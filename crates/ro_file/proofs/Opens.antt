@@ -46,14 +46,14 @@ heard file digest bytes =
 
 module _ (file : ℕ) (digest : Digest) (x y : Told) (raw : List ℕ) (few : length raw ≤ 256) where
   outcome : (r : Result MeasuredFile RoFault) → r ≡ opened file digest raw → IsHeardOr r → IfOk r (λ f. Describes file digest raw f)
-      → OpenFileOutcome file digest r (trace_of ((DescriptorOf file, Bytes raw) ∷ []) x y)
-  outcome (Ok f) is heard_so describes = record { bytes = raw; own = refl; is = sym is; describes = describes }
+      → OpenFileOutcome file digest r (trace_of ((DescriptorOf file, Bytes raw) ∷ []) 0 x y)
+  outcome (Ok f) is heard_so describes = record { failed = refl; bytes = raw; own = refl; is = sym is; describes = describes }
   outcome (Err (fault.Failed faults)) is heard_so describes = absurd heard_so
   outcome (Err fault.Memory) is heard_so describes = absurd heard_so
-  outcome (Err (fault.Short asked got)) is heard_so describes = record { bytes = raw; own = refl; few = few; is = sym is }
-  outcome (Err (fault.DigestMismatch expected found)) is heard_so describes = record { bytes = raw; own = refl; few = few; is = sym is }
-  outcome (Err (fault.Descriptor broken)) is heard_so describes = record { bytes = raw; own = refl; few = few; is = sym is }
-  outcome (Err (fault.TooLong size)) is heard_so describes = record { bytes = raw; own = refl; few = few; is = sym is }
+  outcome (Err (fault.Short asked got)) is heard_so describes = record { failed = refl; bytes = raw; own = refl; few = few; is = sym is }
+  outcome (Err (fault.DigestMismatch expected found)) is heard_so describes = record { failed = refl; bytes = raw; own = refl; few = few; is = sym is }
+  outcome (Err (fault.Descriptor broken)) is heard_so describes = record { failed = refl; bytes = raw; own = refl; few = few; is = sym is }
+  outcome (Err (fault.TooLong size)) is heard_so describes = record { failed = refl; bytes = raw; own = refl; few = few; is = sym is }
 
   pub answered : (r : Result MeasuredFile RoFault) → Answered (DescriptorOf file) [] (Bytes raw) x y → r ≡ opened file digest raw → IfOk r (λ f. Describes file digest raw f)
       → Did (IsDescriptorCall file) 1 x y (OpenFileOutcome file digest r)

@@ -1,5 +1,5 @@
 -- What comes of opening a file by its digest: one call for its descriptor, and what its answer says.
-use Rattle.std.specs.Prelude.{Bool, true, ◌≡◌, ℕ, ◌^◌, ◌≤◌, List, [], ◌∷◌, length, nat_eq, nat_lt, if◌then◌else◌, Result, Ok, Err}
+use Rattle.std.specs.Prelude.{Bool, ◌≡◌, ℕ, ◌^◌, ◌≤◌, List, [], ◌∷◌, length, nat_eq, nat_lt, if◌then◌else◌, Result, Ok, Err}
 use Rattle.std.specs.Cmp.Lexicographic.{pointwise}
 use Rattle.sha2.specs.Sha256.{sha256}
 use Rattle.mg_base.specs.declared.values.Digest.{Digest}
@@ -7,7 +7,7 @@ use Rattle.host_traits.specs.declared.calls.Call.{Call}
 use Rattle.host_traits.specs.declared.calls.Call.TheVariants.{Descriptor as DescriptorOf}
 use Rattle.host_traits.specs.declared.calls.Said.TheVariants.{Bytes}
 use Rattle.host_traits.specs.Told.{Exchanges}
-use Rattle.host_traits.specs.Did.{IsIn, Trace, IsFailed}
+use Rattle.host_traits.specs.Did.{IsIn, Trace, IsFailed, IsScarce}
 use Rattle.verity_descriptor.specs.declared.Descriptor.{Descriptor}
 use Rattle.verity_descriptor.specs.declared.DescriptorFault.{DescriptorFault}
 use Rattle.verity_descriptor.specs.Spelling.{IsDescriptor, descriptor_bytes, decoded}
@@ -49,15 +49,17 @@ pub record Describes (file : ℕ) (digest : Digest) (bytes : List ℕ) (f : Meas
   pub size : descriptor.size ≤ 2 ^ 32
   pub file_is : f ≡ file_of file descriptor
 
--- the one answer that was heard describes this file
+-- no call failed, and the one answer that was heard describes this file
 pub record IsOpened (file : ℕ) (digest : Digest) (t : Trace) (f : MeasuredFile) : Type 0 where
+  pub failed : t.failed ≡ 0
   pub bytes : List ℕ
   pub own : t.own ≡ (DescriptorOf file, Bytes bytes) ∷ []
   pub is : opened file digest bytes ≡ Ok f
   pub describes : Describes file digest bytes f
 
--- the one answer that was heard describes no file, for this reason
+-- no call failed, and the one answer that was heard describes no file, for this reason
 pub record IsRefused (file : ℕ) (digest : Digest) (t : Trace) (why : RoFault) : Type 0 where
+  pub failed : t.failed ≡ 0
   pub bytes : List ℕ
   pub own : t.own ≡ (DescriptorOf file, Bytes bytes) ∷ []
   pub few : length bytes ≤ 256
@@ -67,7 +69,7 @@ pub record IsRefused (file : ℕ) (digest : Digest) (t : Trace) (why : RoFault) 
 abbrev pub OpenFileOutcome : ℕ → Digest → Result MeasuredFile RoFault → Trace → Type 0
 OpenFileOutcome file digest (Ok f) t = IsOpened file digest t f
 OpenFileOutcome file digest (Err (fault.Failed faults)) t = (t.own ≡ []) × IsFailed (IsDescriptorCall file) t faults
-OpenFileOutcome file digest (Err fault.Memory) t = (t.own ≡ []) × (t.scarce ≡ true)
+OpenFileOutcome file digest (Err fault.Memory) t = (t.own ≡ []) × IsScarce t
 OpenFileOutcome file digest (Err why) t = IsRefused file digest t why
 
 -- a file was opened by an answer among what was heard

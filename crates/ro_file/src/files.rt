@@ -5,13 +5,13 @@ ghost use Rattle.verity_path.specs.Range.{most_answers, IsForRead, RangeOutcome}
 ghost use Rattle.ro_file.specs.Files.{IsReadable, layout_of};
 ghost use Rattle.ro_file.specs.Opening.{IsDescriptorCall, OpenFileOutcome, Describes, opened};
 
-use host_traits::{Host, HostError};
-use mg_base::Digest;
+use host_traits::{Host, HostError, Raw};
+use mg_base::{Digest, Page};
 use sha2::{Digest as _, Sha256};
 use std::alloc::AllocError;
 use std::marker::Model;
 use verity_descriptor::{DescriptorFault, decode};
-use verity_path::{Buffers, Layout, Measure, Served, WalkFault, read_range};
+use verity_path::{Device, Layout, Measure, Served, WalkFault, read_range};
 
 /// Why a file was not opened.
 #[derive(Clone, Copy, Debug, PartialEq, Eq)]
@@ -107,11 +107,11 @@ pub fn open_file<H: Host>(
     host: &mut H,
     file: u32,
     digest: &Digest,
-    buf: &mut Buffers,
+    raw: &mut Raw,
 ) -> Result<RoFile, RoFault>
     ensures { Did (IsDescriptorCall file) 1 (H.told host.old) (H.told host.new) (OpenFileOutcome file digest.now result) }
 {
-    match host.file_descriptor(file, &mut buf.raw) {
+    match host.file_descriptor(file, raw) {
         Ok(()) => {}
         Err(HostError::Failed) => {
             let faults = host.faults();
@@ -119,7 +119,7 @@ pub fn open_file<H: Host>(
         }
         Err(HostError::Memory) => return Err(RoFault::Memory),
     }
-    described(file, digest, buf.raw.layout())
+    described(file, digest, raw.layout())
 }
 
 impl RoFile {
@@ -142,7 +142,8 @@ impl RoFile {
         host: &mut H,
         at: u64,
         len: u32,
-        buf: &mut Buffers,
+        raw: &mut Raw,
+        page: &mut Page,
         served: &mut Served,
     ) -> Result<(), WalkFault>
         requires empty { served.old ≡ [] }
@@ -150,12 +151,13 @@ impl RoFile {
         ensures { Did (IsForRead (layout_of self.now) self.now.measure self.now.size at len) (most_answers self.now.measure self.now.size at len) (H.told host.old) (H.told host.new)
             (RangeOutcome (layout_of self.now) self.now.measure self.now.size at len served.new result) }
     {
-        let size = self.size;
-        let layout = Layout::File {
-            file: self.file,
-            size,
+        let device = Device {
+            measure: self.measure,
+            layout: Layout::File {
+                file: self.file,
+                size: self.size,
+            },
         };
-        let measure = &self.measure;
-        read_range(host, &layout, measure, size, at, len, buf, served)
+        read_range(host, &device, self.size, at, len, raw, page, served)
     }
 }

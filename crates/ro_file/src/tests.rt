@@ -233,7 +233,7 @@ fn opens_by_digest(rt: HostRuntime) -> Result<(), Fail> {
     let mut buf = buffers(rt.alloc())?;
     for (size, digest) in DIGESTS {
         let mut host = host_of(rt.alloc(), size, &Salt::none())?;
-        let file = open_file(&mut host, 7, &Digest(*digest), &mut buf)?;
+        let file = open_file(&mut host, 7, &Digest(*digest), &mut buf.raw)?;
         assert_eq!(rt; file.size(), size);
         let call = [Call::Descriptor { file: 7 }];
         assert_eq!(rt; host.calls.as_slice(), call.as_slice());
@@ -250,7 +250,7 @@ fn refusal(
 ) -> Result<Option<RoFault>, Fail> {
     let mut host = host_of(alloc, 0, &Salt::none())?;
     host.descriptor = Vec::from_slice(alloc, descriptor)?;
-    match open_file(&mut host, 7, &Digest(*digest), buf) {
+    match open_file(&mut host, 7, &Digest(*digest), &mut buf.raw) {
         Ok(_file) => Ok(None),
         Err(fault) => Ok(Some(fault)),
     }
@@ -345,7 +345,7 @@ fn serves<R: Abort>(
     assert!(rt; len <= 131_072);
     served.clear();
     host.calls.clear();
-    file.read(host, at, len, buf, served)?;
+    file.read(host, at, len, &mut buf.raw, &mut buf.page, served)?;
     for (j, byte) in served.bytes().iter().enumerate() {
         assert_eq!(rt; *byte as u64, at.wrapping_add(j as u64) % 251);
     }
@@ -367,7 +367,7 @@ fn asks_for_no_more(rt: HostRuntime) -> Result<(), Fail> {
     for ((size, digest), (same, at, want, calls, len)) in DIGESTS.iter().zip(rows) {
         assert_eq!(rt; *size, same);
         let mut host = host_of(rt.alloc(), *size, &Salt::none())?;
-        let file = open_file(&mut host, 7, &Digest(**digest), &mut buf)?;
+        let file = open_file(&mut host, 7, &Digest(**digest), &mut buf.raw)?;
         let got = serves(&rt, &file, &mut host, at, 131_072, &mut buf, &mut served)?;
         assert_eq!(rt; got, len);
         assert_eq!(rt; host.calls.len(), calls);
@@ -418,7 +418,7 @@ fn reads_whole_in_pieces(rt: HostRuntime) -> Result<(), Fail> {
     ];
     for (salt, digest, piece) in rows {
         let mut host = host_of(rt.alloc(), 100_000, &salt)?;
-        let file = open_file(&mut host, 7, &Digest(*digest), &mut buf)?;
+        let file = open_file(&mut host, 7, &Digest(*digest), &mut buf.raw)?;
         let got = read_whole(&rt, &file, &mut host, piece.max(1), &mut buf, &mut served)?;
         assert_eq!(rt; got, 100_000, "pieces of {piece}");
     }
@@ -433,7 +433,7 @@ fn names_a_changed_page(rt: HostRuntime) -> Result<(), Fail> {
     let mut host = host_of(rt.alloc(), 100_000, &Salt::none())?;
     let digest = Digest(*DIGESTS[4].1);
     flip(&mut host.descriptor, 0);
-    let Err(fault) = open_file(&mut host, 7, &digest, &mut buf) else {
+    let Err(fault) = open_file(&mut host, 7, &digest, &mut buf.raw) else {
         return Err("opened")?;
     };
     let want = RoFault::DigestMismatch {
@@ -442,7 +442,7 @@ fn names_a_changed_page(rt: HostRuntime) -> Result<(), Fail> {
     };
     assert_eq!(rt; fault, want);
     flip(&mut host.descriptor, 0);
-    let file = open_file(&mut host, 7, &digest, &mut buf)?;
+    let file = open_file(&mut host, 7, &digest, &mut buf.raw)?;
     flip(&mut host.stored, 0);
     let fault = serves(&rt, &file, &mut host, 99_000, 10, &mut buf, &mut served);
     let want = Mismatch {

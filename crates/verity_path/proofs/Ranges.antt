@@ -91,7 +91,7 @@ module _ (layout : Layout) (m : Measure) (size offset len end : ℕ) (end_is : e
   path_for index call from to path = record { block = index; some = rw (← end_is) some; from = from; to = rw (← end_is) to; path = path }
 
   pub range_start : (a : Told) (bytes : List ℕ) → bytes ≡ [] → Did (IsForRead layout m size offset len) (answers_to m offset (offset / 4096)) a a (RangeSoFar m offset end (offset / 4096) bytes)
-  range_start a bytes none = rw none (did_none _ _ a _ (cut_none [] m offset _ (omega arith)))
+  range_start a bytes none = rw none (did_none _ _ a _ (refl, cut_none [] m offset _ (omega arith)))
 
   more_answers : (index : ℕ) → offset / 4096 ≤ index → answers_to m offset index + (top m.blocks + 1) ≡ answers_to m offset (index + 1)
   more_answers index from =
@@ -114,8 +114,11 @@ module _ (layout : Layout) (m : Measure) (size offset len end : ℕ) (end_is : e
       let here : min end mid ≡ mid = omega arith in
       let there : min end (max offset (4096 * (index + 1))) ≡ min end (4096 * index + 4096) = omega arith in
       let part : (min end (4096 * index + 4096) - 4096 * index) - (mid - 4096 * index) ≡ min end (4096 * index + 4096) - mid = omega arith in
-      rw (← more_answers index from) (did_then _ _ _ a b c _ _ _ d (did_so _ _ _ _ b c _ _ e (λ call. path_for index call from to) (omega arith) (λ t q. q)) (λ x y le cut proved.
-      rw (there, part) (cut_more x y m offset mid (min end (4096 * index + 4096)) index bytes p.page refl (omega arith) (omega arith) proved.len (rw here at cut) proved.piece proved.derived)))
+      rw (← more_answers index from) (did_then _ _ _ a b c _ _ _ d (did_so _ _ _ _ b c _ _ e (λ call. path_for index call from to) (omega arith) (λ t q. q)) (λ t so. so.0) (λ x y failed le so proved. (
+        proved.failed,
+        rw (there, part) (cut_more x y m offset mid (min end (4096 * index + 4096)) index bytes p.page refl (omega arith) (omega arith) proved.len
+            (rw here at so.1) proved.piece proved.derived),
+      )))
 
   pub range_bad : (a b c : Told) (index : ℕ) (bytes left : List ℕ) (f : WalkFault) → offset / 4096 ≤ index → 4096 * index < end → Did (IsForRead layout m size offset len) (answers_to m offset index) a b (RangeSoFar m offset end index bytes)
       → Did (IsOnPath layout m index) (top m.blocks + 1) b c (WalkOutcome layout m index (Err f)) → Did (IsForRead layout m size offset len) (most_answers m size offset len) a c (RangeOutcome layout m size offset len left (Err f))
@@ -123,20 +126,20 @@ module _ (layout : Layout) (m : Measure) (size offset len end : ℕ) (end_is : e
       let last : index + 1 ≤ (end + 4095) / 4096 = omega arith in
       let low = answers_low (index + 1) ((end + 4095) / 4096) last in
       let both : answers_to m offset index + (top m.blocks + 1) ≤ most_answers m size offset len = rw (all_answers, more_answers index from) low in
-      let all = did_then _ _ _ a b c _ _ (RangeOutcome layout m size offset len left (Err f)) d (did_so _ _ _ _ b c _ _ e (λ call. path_for index call from to) (omega arith) (λ t q. q)) (λ x y le cut blame.
-      blame_later layout m (IsForRead layout m size offset len) a b c x y f le (blame_so layout m (IsOnPath layout m index) (IsForRead layout m size offset len) _ f (λ call. path_for index call from to) blame)) in
+      let all = did_then _ _ _ a b c _ _ (RangeOutcome layout m size offset len left (Err f)) d (did_so _ _ _ _ b c _ _ e (λ call. path_for index call from to) (omega arith) (λ t q. q)) (λ t so. so.0) (λ x y failed le so blame.
+      blame_later layout m (IsForRead layout m size offset len) a b c x y failed f le (blame_so layout m (IsOnPath layout m index) (IsForRead layout m size offset len) _ f (λ call. path_for index call from to) blame)) in
       did_so _ _ _ _ a c _ _ all (λ call q. q) both (λ t q. q)
 
   pub range_end : (a b : Told) (index : ℕ) (bytes : List ℕ) (u : Unit {0}) → index ≡ (end + 4095) / 4096 → Did (IsForRead layout m size offset len) (answers_to m offset index) a b (RangeSoFar m offset end index bytes)
       → Did (IsForRead layout m size offset len) (most_answers m size offset len) a b (RangeOutcome layout m size offset len bytes (Ok u))
   range_end a b index bytes u last d =
       let e : min end (max offset (4096 * index)) ≡ end_of size offset len = omega (arith, last, end_is, some) in
-      did_so _ _ _ _ a b _ _ d (λ call q. q) (rw (all_answers, last) (omega arith)) (λ t cut. rw e at cut)
+      did_so _ _ _ _ a b _ _ d (λ call q. q) (rw (all_answers, last) (omega arith)) (λ t so. (so.0, rw e at so.1))
 
 -- an empty range
 pub range_none : (layout : Layout) (m : Measure) (size offset len : ℕ) (a : Told) (bytes : List ℕ) (u : Unit {0}) → end_of size offset len ≤ offset → bytes ≡ [] →
     Did (IsForRead layout m size offset len) (most_answers m size offset len) a a (RangeOutcome layout m size offset len bytes (Ok u))
-range_none layout m size offset len a bytes u le none = rw none (did_none _ _ a _ (cut_none [] m offset _ le))
+range_none layout m size offset len a bytes u le none = rw none (did_none _ _ a _ (refl, cut_none [] m offset _ le))
 
 -- more heard ties no less
 pub cut_wider : (heard own : Exchanges) (m : Measure) (offset end : ℕ) (bytes : List ℕ) → IsCut own m offset end bytes → IsCut (heard ++ own) m offset end bytes

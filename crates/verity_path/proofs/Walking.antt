@@ -3,7 +3,7 @@ use Rattle.std.proofs.Common.{◌≡◌, ℕ, ◌+◌, ◌-◌, ◌/◌, ◌%◌
 use Rattle.host_traits.specs.declared.calls.Call.{Call}
 use Rattle.host_traits.specs.Told.{Told, Exchanges}
 use Rattle.host_traits.specs.Did.{Trace, trace_of, Did}
-use Rattle.host_traits.proofs.Doing.{in_left, in_right, did_none, did_so, did_then, short_later, failed_later, failed_so}
+use Rattle.host_traits.proofs.Doing.{in_left, in_right, did_none, did_so, did_then, short_later, failed_later, scarce_later, failed_so}
 use Rattle.sha_tree.specs.declared.measure.Measure.{Measure}
 use Rattle.sha_tree.specs.Tree.{block as content_block, ancestor, page_hash, slot, top}
 use Rattle.sha_tree.specs.Measured.{HasTree}
@@ -13,7 +13,7 @@ use Rattle.sha_tree.proofs.Sound.{derived_more, derived_top, derived_below, all_
 use Rattle.verity_path.specs.States.{Place, Met, IsMet}
 use Rattle.verity_path.specs.Calls.{IsOnPath, call_for}
 use Rattle.verity_path.specs.Pieces.{IsPiece, IsHashed}
-use Rattle.verity_path.specs.Steps.{IsCallFor, IsFetched, IsFetchBlame, FetchOutcome, IsBelow}
+use Rattle.verity_path.specs.Steps.{IsCallFor, IsFetched, IsFetchBlame, ProvedOutcome, IsBelow}
 use Rattle.verity_path.specs.Walk.{IsWalkBlame, IsProved, WalkOutcome}
 use Rattle.verity_path.specs.declared.walk.Layout.{Layout}
 use Rattle.verity_path.specs.declared.walk.WalkFault.{WalkFault}
@@ -35,13 +35,12 @@ on_path layout m block count level index same low is call c = record {
 }
 
 -- the hash of a page that meets an anchor
-hash_met : (m : Measure) (a : Place) (p : Met) → a.salt ≡ m.salt → p.anchor ≡ a → IsMet p → a.digest ≡ page_hash m.salt p.page
-hash_met m a p salt same met =
-    ap (λ (x : Place). x.digest) (sym same) ∙ sym met ∙ ap (λ (x : Place). page_hash x.salt p.page) same ∙ ap (λ (s : List ℕ). page_hash s p.page) salt
+hash_met : (m : Measure) (a : Place) (p : List ℕ) → a.salt ≡ m.salt → page_hash a.salt p ≡ a.digest → a.digest ≡ page_hash m.salt p
+hash_met m a p salt met = sym met ∙ ap (λ (s : List ℕ). page_hash s p) salt
 
--- where a walk stands: the anchor is that of the page over the block, and its digest is tied to that place
+-- where a walk stands: no call failed, the anchor is that of the page over the block, and its digest is tied to that place
 abbrev pub Stands : Measure → ℕ → ℕ → Place → Trace → Type 0
-Stands m block level a t = IsDerived (IsPiece t.own) m level (ancestor block level) a.digest
+Stands m block level a t = (t.failed ≡ 0) × IsDerived (IsPiece t.own) m level (ancestor block level) a.digest
 
 -- the anchor of a level on the way to a block
 pub record IsAt (m : Measure) (block level : ℕ) (a : Place) : Type 0 where
@@ -50,8 +49,9 @@ pub record IsAt (m : Measure) (block level : ℕ) (a : Place) : Type 0 where
   pub index_is : a.index ≡ ancestor block level
   pub salt_is : a.salt ≡ m.salt
 
-pub next_at : (m : Measure) (block : ℕ) (a b : Place) (level : ℕ) (t : Trace) → 0 < level → IsAt m block level a → IsBelow block a t b → IsAt m block (level - 1) b
-next_at m block a b level t some at q =
+pub next_at : (m : Measure) (block : ℕ) (layout : Layout) (count : ℕ) (a b : Place) (level : ℕ) (t : Trace) → 0 < level → IsAt m block level a
+    → IsBelow layout count block a t b → IsAt m block (level - 1) b
+next_at m block layout count a b level t some at q =
     let slot_is : ancestor block (a.level - 1) ≡ ancestor block (level - 1) = ap (λ (l : ℕ). ancestor block (l - 1)) at.level_is in
     record {
       low = omega (arith, at.low);
@@ -66,51 +66,56 @@ module _ (layout : Layout) (m : Measure) (block count : ℕ) (same : count ≡ m
   begins a level told limit is root =
       let zero_is : ancestor block level ≡ 0 = ap (ancestor block) is ∙ ancestor-top m.blocks block within limit in
       did_none (IsOnPath layout m block) (top m.blocks - level) told (Stands m block level a)
-      (rw (zero_is, is, root) (derived_top (IsPiece []) m (omega arith) limit))
+      (refl, rw (zero_is, is, root) (derived_top (IsPiece []) m (omega arith) limit))
 
   -- the call for an anchor's page is on the path
   path : (a : Place) (level : ℕ) → IsAt m block level a → (call : Call) → IsCallFor layout count a.level a.index call → IsOnPath layout m block call
   path a level at = on_path layout m block count a.level a.index same (omega (arith, at.low, at.level_is)) (at.index_is ∙ ap (ancestor block) (sym at.level_is))
 
   -- what is tied stays so, where the page that meets the anchor was heard
-  tied_hash : (u v : Exchanges) (a : Place) (level : ℕ) (p : Met) → IsAt m block level a → IsDerived (IsPiece u) m level (ancestor block level) a.digest → p.anchor ≡ a → IsMet p →
-      IsDerived (IsPiece (u ++ v)) m level (ancestor block level) (page_hash m.salt p.page)
-  tied_hash u v a level p at d same_anchor met =
-      subst (λ (x : List ℕ). IsDerived (IsPiece (u ++ v)) m level (ancestor block level) x) (hash_met m a p at.salt_is same_anchor met)
+  tied_hash : (u v : Exchanges) (a : Place) (level : ℕ) (p : List ℕ) → IsAt m block level a
+      → IsDerived (IsPiece u) m level (ancestor block level) a.digest → page_hash a.salt p ≡ a.digest
+      → IsDerived (IsPiece (u ++ v)) m level (ancestor block level) (page_hash m.salt p)
+  tied_hash u v a level p at d met =
+      subst (λ (x : List ℕ). IsDerived (IsPiece (u ++ v)) m level (ancestor block level) x) (hash_met m a p at.salt_is met)
       (derived_more (IsPiece u) (IsPiece (u ++ v)) m (piece_left u v) level (ancestor block level) a.digest d)
 
-  below : (u v : Exchanges) (t : Trace) (a b : Place) (level : ℕ) → 0 < level → IsAt m block level a → IsDerived (IsPiece u) m level (ancestor block level) a.digest → t.own ≡ v →
-      IsBelow block a t b → IsDerived (IsPiece (u ++ v)) m (level - 1) (ancestor block (level - 1)) b.digest
+  below : (u v : Exchanges) (t : Trace) (a b : Place) (level : ℕ) → 0 < level → IsAt m block level a
+      → IsDerived (IsPiece u) m level (ancestor block level) a.digest → t.own ≡ v → IsBelow layout count block a t b
+      → IsDerived (IsPiece (u ++ v)) m (level - 1) (ancestor block (level - 1)) b.digest
   below u v t a b level some at d own q =
       let up : level ≡ level - 1 + 1 = omega arith in
-      let hash = tied_hash u v a level q.page at d q.fetched.anchor q.fetched.met in
-      let above : IsDerived (IsPiece (u ++ v)) m (level - 1 + 1) (ancestor block (level - 1) / 128) (page_hash m.salt q.page.page) =
-      subst (λ (l : ℕ). IsDerived (IsPiece (u ++ v)) m l (ancestor block (level - 1) / 128) (page_hash m.salt q.page.page)) up
-      (subst (λ (i : ℕ). IsDerived (IsPiece (u ++ v)) m level i (page_hash m.salt q.page.page)) (ancestor-above block level some) hash) in
-      derived_below (IsPiece (u ++ v)) m (level - 1) (ancestor block (level - 1)) q.page.page b.digest
-      (piece_right u v q.page.page (subst (λ (e : Exchanges). IsPiece e q.page.page) own q.fetched.piece)) above
+      let hash = tied_hash u v a level q.page at d q.fetched.met in
+      let above : IsDerived (IsPiece (u ++ v)) m (level - 1 + 1) (ancestor block (level - 1) / 128) (page_hash m.salt q.page) =
+      subst (λ (l : ℕ). IsDerived (IsPiece (u ++ v)) m l (ancestor block (level - 1) / 128) (page_hash m.salt q.page)) up
+      (subst (λ (i : ℕ). IsDerived (IsPiece (u ++ v)) m level i (page_hash m.salt q.page)) (ancestor-above block level some) hash) in
+      derived_below (IsPiece (u ++ v)) m (level - 1) (ancestor block (level - 1)) q.page b.digest
+      (piece_right u v q.page (subst (λ (e : Exchanges). IsPiece e q.page) own q.fetched.piece)) above
       (ancestor-page m.blocks block (level - 1) within)
-      (q.digest_is ∙ ap (λ (l : ℕ). slot q.page.page (ancestor block (l - 1) % 128)) at.level_is)
+      (q.digest_is ∙ ap (λ (l : ℕ). slot q.page (ancestor block (l - 1) % 128)) at.level_is)
 
   pub goes_on : (a b : Place) (level : ℕ) (x y z : Told) → 0 < level → IsAt m block level a →
       Did (IsOnPath layout m block) (top m.blocks - level) x y (Stands m block level a) →
-      Did (IsCallFor layout count a.level a.index) 1 y z (λ t. IsBelow block a t b) →
+      Did (IsCallFor layout count a.level a.index) 1 y z (λ t. IsBelow layout count block a t b) →
       Did (IsOnPath layout m block) (top m.blocks - (level - 1)) x z (Stands m block (level - 1) b)
   goes_on a b level x y z some at d e =
       let low = at.low in
       let one = did_so (IsCallFor layout count a.level a.index) (IsOnPath layout m block) 1 1 y z _ _ e (path a level at) (omega arith) (λ t q. q) in
       let all : Did (IsOnPath layout m block) (top m.blocks - level + 1) x z (Stands m block (level - 1) b) =
-      did_then (IsOnPath layout m block) (top m.blocks - level) 1 x y z (Stands m block level a) (λ t. IsBelow block a t b) (Stands m block (level - 1) b) d one
-      (λ u v le p q. below u v _ a b level some at p refl q) in
-      did_so (IsOnPath layout m block) (IsOnPath layout m block) (top m.blocks - level + 1) (top m.blocks - (level - 1)) x z _ _ all (λ call f. f) (omega arith) (λ t q. q)
+      did_then (IsOnPath layout m block) (top m.blocks - level) 1 x y z (Stands m block level a) (λ t. IsBelow layout count block a t b)
+      (Stands m block (level - 1) b) d one (λ t p. p.0)
+      (λ u v failed le p q. (q.fetched.failed, below u v _ a b level some at p.1 refl q)) in
+      did_so (IsOnPath layout m block) (IsOnPath layout m block) (top m.blocks - level + 1) (top m.blocks - (level - 1)) x z _ _ all
+      (λ call f. f) (omega arith) (λ t q. q)
 
-  blamed : (u v : Exchanges) (x y z : Told) (a : Place) (level : ℕ) (fault : WalkFault) → x.faults ≤ y.faults → IsAt m block level a →
-      IsDerived (IsPiece u) m level (ancestor block level) a.digest → IsFetchBlame layout count a (trace_of v y z) fault →
-      IsWalkBlame layout m (IsOnPath layout m block) (trace_of (u ++ v) x z) fault
-  blamed u v x y z a level (fault.Mismatch w) le at d q =
+  blamed : (u v : Exchanges) (failed : ℕ) (x y z : Told) (a : Place) (level : ℕ) (fault : WalkFault) → x.faults ≤ y.faults → IsAt m block level a →
+      IsDerived (IsPiece u) m level (ancestor block level) a.digest → IsFetchBlame layout count a (trace_of v failed y z) fault →
+      IsWalkBlame layout m (IsOnPath layout m block) (trace_of (u ++ v) failed x z) fault
+  blamed u v failed x y z a level (fault.Mismatch w) le at d q =
       let level_is = q.level_is ∙ at.level_is in
       let index_is = q.index_is ∙ at.index_is in
       record {
+        failed = q.failed;
         differ = q.differ;
         bytes = q.bytes;
         own = rw (q.level_is, q.index_is, ← same) (in_right _ _ u v q.own);
@@ -118,10 +123,11 @@ module _ (layout : Layout) (m : Measure) (block count : ℕ) (same : count ≡ m
         found = rw (q.level_is, q.index_is, ← same, ← at.salt_is) q.found;
         expected = rw (level_is, index_is, q.expected) (derived_more (IsPiece u) (IsPiece (u ++ v)) m (piece_left u v) level (ancestor block level) a.digest d);
       }
-  blamed u v x y z a level (fault.Short asked got) le at d q = short_later x y z u v asked got q
-  blamed u v x y z a level (fault.Failed faults) le at d q =
-      failed_later (IsOnPath layout m block) x y z u v faults le (failed_so (IsCallFor layout count a.level a.index) (IsOnPath layout m block) _ faults (path a level at) q)
-  blamed u v x y z a level fault.Memory le at d q = q
+  blamed u v failed x y z a level (fault.Short asked got) le at d q = short_later x y z u v failed asked got q
+  blamed u v failed x y z a level (fault.Failed faults) le at d q =
+      failed_later (IsOnPath layout m block) x y z u v failed faults le
+      (failed_so (IsCallFor layout count a.level a.index) (IsOnPath layout m block) _ faults (path a level at) q)
+  blamed u v failed x y z a level fault.Memory le at d q = scarce_later x y z u v failed q
 
   pub fails : (a : Place) (level : ℕ) (x y z : Told) (fault : WalkFault) → IsAt m block level a →
       Did (IsOnPath layout m block) (top m.blocks - level) x y (Stands m block level a) →
@@ -130,9 +136,11 @@ module _ (layout : Layout) (m : Measure) (block count : ℕ) (same : count ≡ m
   fails a level x y z fault at d e =
       let one = did_so (IsCallFor layout count a.level a.index) (IsOnPath layout m block) 1 1 y z _ _ e (path a level at) (omega arith) (λ t q. q) in
       let all : Did (IsOnPath layout m block) (top m.blocks - level + 1) x z (WalkOutcome layout m block (Err fault)) =
-      did_then (IsOnPath layout m block) (top m.blocks - level) 1 x y z (Stands m block level a) (λ t. IsFetchBlame layout count a t fault) (WalkOutcome layout m block (Err fault)) d one
-      (λ u v le p q. blamed u v x y z a level fault le at p q) in
-      did_so (IsOnPath layout m block) (IsOnPath layout m block) (top m.blocks - level + 1) (top m.blocks + 1) x z _ _ all (λ call f. f) (omega arith) (λ t q. q)
+      did_then (IsOnPath layout m block) (top m.blocks - level) 1 x y z (Stands m block level a) (λ t. IsFetchBlame layout count a t fault)
+      (WalkOutcome layout m block (Err fault)) d one (λ t p. p.0)
+      (λ u v failed le p q. blamed u v failed x y z a level fault le at p.1 q) in
+      did_so (IsOnPath layout m block) (IsOnPath layout m block) (top m.blocks - level + 1) (top m.blocks + 1) x z _ _ all
+      (λ call f. f) (omega arith) (λ t q. q)
 
   -- a piece that is tied to a block's place is the content's
   pub sound : (own : Exchanges) (p content : List ℕ) → IsPiece own p → IsDerived (IsPiece own) m 0 block (page_hash m.salt p) → HasTree m content → NoClash (IsHashed own content m.salt) →
@@ -141,32 +149,37 @@ module _ (layout : Layout) (m : Measure) (block count : ℕ) (same : count ≡ m
       (all_sound (IsPiece own) (IsHashed own content m.salt) m content tree (omega arith) apart
       (λ q i. inl (record { p = q; piece = i; is = refl })) (λ x i. inr i)).blocks block p piece d
 
-  proved : (u v : Exchanges) (x y z : Told) (a : Place) (p : Met) → IsAt m block 0 a → IsDerived (IsPiece u) m 0 (ancestor block 0) a.digest → IsFetched a (trace_of v y z) p →
-      IsProved m block (trace_of (u ++ v) x z) p
-  proved u v x y z a p at d q =
+  proved : (u v : Exchanges) (failed : ℕ) (x y z : Told) (a : Place) (p : Met) → IsAt m block 0 a
+      → IsDerived (IsPiece u) m 0 (ancestor block 0) a.digest → p.anchor ≡ a → IsFetched layout count a (trace_of v failed y z) p.page
+      → IsProved m block (trace_of (u ++ v) failed x z) p
+  proved u v failed x y z a p at d anchor q =
       let piece = piece_right u v p.page q.piece in
       let derived : IsDerived (IsPiece (u ++ v)) m 0 block (page_hash m.salt p.page) =
-      subst (λ (i : ℕ). IsDerived (IsPiece (u ++ v)) m 0 i (page_hash m.salt p.page)) (ancestor-zero block) (tied_hash u v a 0 p at d q.anchor q.met) in
+      subst (λ (i : ℕ). IsDerived (IsPiece (u ++ v)) m 0 i (page_hash m.salt p.page)) (ancestor-zero block) (tied_hash u v a 0 p.page at d q.met) in
       record {
+        failed = q.failed;
         piece = piece;
         len = q.len;
         derived = derived;
         sound = λ content tree apart. sound (u ++ v) p.page content piece derived tree apart;
-        level_is = ap (λ (w : Place). w.level) q.anchor ∙ at.level_is;
-        index_is = ap (λ (w : Place). w.index) q.anchor ∙ at.index_is ∙ ancestor-zero block;
-        salt_is = ap (λ (w : Place). w.salt) q.anchor ∙ at.salt_is;
-        met = q.met;
+        level_is = ap (λ (w : Place). w.level) anchor ∙ at.level_is;
+        index_is = ap (λ (w : Place). w.index) anchor ∙ at.index_is ∙ ancestor-zero block;
+        salt_is = ap (λ (w : Place). w.salt) anchor ∙ at.salt_is;
+        met = rw anchor q.met;
       }
 
   pub ends : (a : Place) (level : ℕ) (x y z : Told) (r : Result Met WalkFault) → level ≡ 0 → IsAt m block level a →
       Did (IsOnPath layout m block) (top m.blocks - level) x y (Stands m block level a) →
-      Did (IsCallFor layout count a.level a.index) 1 y z (FetchOutcome layout count a r) →
+      Did (IsCallFor layout count a.level a.index) 1 y z (ProvedOutcome layout count a r) →
       Did (IsOnPath layout m block) (top m.blocks + 1) x z (WalkOutcome layout m block r)
   ends a level x y z (Ok p) none at d e =
       let at_zero : IsAt m block 0 a = subst (λ (l : ℕ). IsAt m block l a) none at in
       let one = did_so (IsCallFor layout count a.level a.index) (IsOnPath layout m block) 1 1 y z _ _ e (path a level at) (omega arith) (λ t q. q) in
       let all : Did (IsOnPath layout m block) (top m.blocks - level + 1) x z (WalkOutcome layout m block (Ok p)) =
-      did_then (IsOnPath layout m block) (top m.blocks - level) 1 x y z (Stands m block level a) (λ t. IsFetched a t p) (WalkOutcome layout m block (Ok p)) d one
-      (λ u v le s q. proved u v x y z a p at_zero (subst (λ (l : ℕ). IsDerived (IsPiece u) m l (ancestor block l) a.digest) none s) q) in
-      did_so (IsOnPath layout m block) (IsOnPath layout m block) (top m.blocks - level + 1) (top m.blocks + 1) x z _ _ all (λ call f. f) (omega arith) (λ t q. q)
+      did_then (IsOnPath layout m block) (top m.blocks - level) 1 x y z (Stands m block level a) (λ t. IsFetched layout count a t p.page × (p.anchor ≡ a))
+      (WalkOutcome layout m block (Ok p)) d one (λ t s. s.0)
+      (λ u v failed le s q. proved u v failed x y z a p at_zero
+      (subst (λ (l : ℕ). IsDerived (IsPiece u) m l (ancestor block l) a.digest) none s.1) q.1 q.0) in
+      did_so (IsOnPath layout m block) (IsOnPath layout m block) (top m.blocks - level + 1) (top m.blocks + 1) x z _ _ all
+      (λ call f. f) (omega arith) (λ t q. q)
   ends a level x y z (Err fault) none at d e = fails a level x y z fault at d e

@@ -46,14 +46,14 @@ abbrev pub IsSlice : Option (List ℕ) → Exchanges → Measure → ℕ → ℕ
 IsSlice (Some content) heard m size offset len bytes = bytes ≡ take len (drop offset content)
 IsSlice None heard m size offset len bytes = IsCut heard m offset (end_of size offset len) bytes
 
--- what came of a read of a range
+-- what came of a read of a range; no call failed where its bytes are given
 abbrev pub RangeOutcome : Layout → Measure → ℕ → ℕ → ℕ → List ℕ → Result (Unit {0}) WalkFault → Trace → Type 0
-RangeOutcome layout m size offset len bytes (Ok _) t = IsCut t.own m offset (end_of size offset len) bytes
+RangeOutcome layout m size offset len bytes (Ok _) t = (t.failed ≡ 0) × IsCut t.own m offset (end_of size offset len) bytes
 RangeOutcome layout m size offset len bytes (Err fault) t = IsWalkBlame layout m (IsForRead layout m size offset len) t fault
 
 -- the blocks below index are read
 abbrev pub RangeSoFar : Measure → ℕ → ℕ → ℕ → List ℕ → Trace → Type 0
-RangeSoFar m offset end index bytes t = IsCut t.own m offset (min end (max offset (4096 * index))) bytes
+RangeSoFar m offset end index bytes t = (t.failed ≡ 0) × IsCut t.own m offset (min end (max offset (4096 * index))) bytes
 
 -- the cause of a read that was not answered, in what was heard for it
 abbrev pub IsReadBlame : Layout → Measure → (Call → Type 0) → Trace → Cause → Type 0

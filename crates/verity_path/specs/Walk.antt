@@ -1,8 +1,8 @@
 -- What comes of a walk to a block.
-use Rattle.std.specs.Prelude.{true, ◌≡◌, ◌≢◌, ℕ, List, length, Result, Ok, Err}
+use Rattle.std.specs.Prelude.{◌≡◌, ◌≢◌, ℕ, List, length, Result, Ok, Err}
 use Rattle.host_traits.specs.declared.calls.Call.{Call}
 use Rattle.host_traits.specs.declared.calls.Said.TheVariants.{Bytes}
-use Rattle.host_traits.specs.Did.{IsIn, Trace, IsShort, IsFailed}
+use Rattle.host_traits.specs.Did.{IsIn, Trace, IsShort, IsFailed, IsScarce}
 use Rattle.sha_tree.specs.declared.measure.Measure.{Measure}
 use Rattle.sha_tree.specs.Tree.{block, page_hash}
 use Rattle.sha_tree.specs.Measured.{HasTree}
@@ -16,8 +16,9 @@ use Rattle.verity_path.specs.declared.walk.WalkFault.{WalkFault}
 use Rattle.verity_path.specs.declared.walk.WalkFault.TheVariants as fault
 
 -- The page at a place has another hash than the digest that what was heard ties to that place: the hash that was found is
--- that of the piece at the page's place in an answer of this work to the call for that page.
+-- that of the piece at the page's place in an answer of this work to the call for that page. No call of this work failed.
 pub record IsMismatch (layout : Layout) (m : Measure) (t : Trace) (x : Mismatch) : Type 0 where
+  pub failed : t.failed ≡ 0
   pub differ : x.expected.0 ≢ x.found.0
   pub bytes : List ℕ
   pub own : IsIn (call_for layout m.blocks x.level x.index) (Bytes bytes) t.own
@@ -30,11 +31,12 @@ abbrev pub IsWalkBlame : Layout → Measure → (Call → Type 0) → Trace → 
 IsWalkBlame layout m IsFor t (fault.Mismatch x) = IsMismatch layout m t x
 IsWalkBlame layout m IsFor t (fault.Short asked got) = IsShort t asked got
 IsWalkBlame layout m IsFor t (fault.Failed faults) = IsFailed IsFor t faults
-IsWalkBlame layout m IsFor t fault.Memory = t.scarce ≡ true
+IsWalkBlame layout m IsFor t fault.Memory = IsScarce t
 
--- A page that was walked to: a piece that was heard, with a hash that what was heard ties to the block's place. It is that
--- block of every content of this measure, where no two different inputs share a digest.
+-- A page that was walked to by calls of which none failed: a piece that was heard, with a hash that what was heard ties to the
+-- block's place. It is that block of every content of this measure, where no two different inputs share a digest.
 pub record IsProved (m : Measure) (index : ℕ) (t : Trace) (p : Met) : Type 0 where
+  pub failed : t.failed ≡ 0
   pub piece : IsPiece t.own p.page
   pub len : length p.page ≡ 4096
   pub derived : IsDerived (IsPiece t.own) m 0 index (page_hash m.salt p.page)

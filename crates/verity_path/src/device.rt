@@ -6,8 +6,9 @@ ghost use Rattle.verity_path.specs.Range.{most_answers, IsForRead, RangeOutcome}
 
 use crate::served::Served;
 use crate::states::Mismatch;
-use crate::walk::{Buffers, Layout, WalkFault, walk_page};
-use host_traits::Host;
+use crate::walk::{Layout, WalkFault, walk_page};
+use host_traits::{Host, Raw};
+use mg_base::Page;
 use sha_tree::Measure;
 
 /// Why a request was not answered, in the host's own answers to it.
@@ -21,26 +22,34 @@ pub enum Cause {
     Failed { faults: u64 },
 }
 
+/// A measured device at the host: whole blocks of 4096 bytes, and where they and their tree stand.
+#[derive(Clone, Copy)]
+pub struct Device {
+    pub measure: Measure,
+    pub layout: Layout,
+}
+
 /// Adds the bytes from `at` on, at most `len` of them and cut at the end, of a measured content of `size` bytes.
-/// It asks only for the blocks that the range touches and the pages above them, in rising order, and takes no memory.
-/// After a fault some of the bytes may have been added.
+/// It asks only for the blocks that the range touches and the pages above them, in rising order, makes no call after one that
+/// failed, and takes no memory. After a fault some of the bytes may have been added.
 pub fn read_range<H: Host>(
     host: &mut H,
-    layout: &Layout,
-    measure: &Measure,
+    device: &Device,
     size: u64,
     at: u64,
     len: u32,
-    buf: &mut Buffers,
+    raw: &mut Raw,
+    page: &mut Page,
     served: &mut Served,
 ) -> Result<(), WalkFault>
     requires empty { served.old ≡ [] }
     requires most { len ≤ 131072 }
-    requires limit { measure.now.blocks ≤ 1048576 }
-    requires suits { Suits layout.now measure.now.blocks }
-    requires fits { size ≤ 4096 * measure.now.blocks }
-    ensures { Did (IsForRead layout.now measure.now size at len) (most_answers measure.now size at len) (H.told host.old) (H.told host.new)
-        (RangeOutcome layout.now measure.now size at len served.new result) }
+    requires limit { device.now.measure.blocks ≤ 1048576 }
+    requires suits { Suits device.now.layout device.now.measure.blocks }
+    requires fits { size ≤ 4096 * device.now.measure.blocks }
+    ensures { Did (IsForRead device.now.layout device.now.measure size at len)
+        (most_answers device.now.measure size at len) (H.told host.old) (H.told host.new)
+        (RangeOutcome device.now.layout device.now.measure size at len served.new result) }
 {
     if len == 0 || at >= size {
         return Ok(());
@@ -50,17 +59,10 @@ pub fn read_range<H: Host>(
         let start = 4096 * index;
         let from = at.max(start) - start;
         let to = end.min(start + 4096) - start;
-        match walk_page(host, layout, measure, index, buf) {
-            Ok(page) => served.push(&page, from as usize, to as usize),
+        match walk_page(host, &device.layout, &device.measure, index, raw, page) {
+            Ok(block) => served.push(&block, from as usize, to as usize),
             Err(fault) => return Err(fault),
         }
     }
     Ok(())
-}
-
-/// A measured device at the host: whole blocks of 4096 bytes, and where they and their tree stand.
-#[derive(Clone, Copy)]
-pub struct Device {
-    pub measure: Measure,
-    pub layout: Layout,
 }

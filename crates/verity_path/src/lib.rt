@@ -11,8 +11,8 @@ pub mod walk;
 pub use crate::device::{Cause, Device, read_range};
 pub use crate::laws::mismatches_lie;
 pub use crate::served::Served;
-pub use crate::states::{Anchor, Mismatch, Proved, check};
-pub use crate::walk::{Buffers, Layout, WalkFault, walk_page};
+pub use crate::states::{Anchor, Mismatch, Proved, check, meets};
+pub use crate::walk::{Buffers, Layout, WalkFault, fetch_page, walk_page};
 pub use sha_tree::Measure;
 
 #[cfg(test)]

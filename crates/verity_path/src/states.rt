@@ -1,5 +1,5 @@
 // The digests that pages must have, and pages that have them.
-ghost use Rattle.std.specs.Prelude.{◌≡◌, ◌≢◌, ℕ, ◌+◌, ◌-◌, ◌*◌, ◌^◌, ◌≤◌, ◌<◌, List, length, IfOk, IfErr, IfSome, IsSome, ◌↔◌, slice_range};
+ghost use Rattle.std.specs.Prelude.{◌≡◌, ◌≢◌, ℕ, ◌+◌, ◌-◌, ◌*◌, ◌^◌, ◌≤◌, ◌<◌, List, length, IfOk, IfErr, OnOk, IfSome, IsSome, ◌↔◌, slice_range};
 ghost use Rattle.sha_tree.specs.Tree.{page_hash, padded, slot as page_slot, top};
 ghost use Rattle.verity_path.specs.States.{Place, Met, IsMet};
 
@@ -98,7 +98,7 @@ pub struct Mismatch {
 
 /// A page whose hash is its anchor's digest. Contracts see the page and the anchor.
 ///
-/// Only `check` makes one, and the page can't be written while it lives.
+/// It is made only where the hash was compared, and the page can't be written while it lives.
 #[derive(Drop)]
 pub struct Proved<'a> {
     page: &'a Page,
@@ -113,6 +113,38 @@ impl<'a> Model for Proved<'a> {
     ghost view = { λ p. record { page = p.page.now; anchor = p.anchor } };
 
     ghost invariant = { λ p. IsMet (record { page = p.page.now; anchor = p.anchor }) };
+}
+
+/// Pads a piece of an answer with zeros into the page: is its hash the anchor's digest? The page keeps the piece, and is left
+/// to be used again. It takes no memory.
+pub fn meets(
+    raw: &Raw,
+    from: usize,
+    len: usize,
+    anchor: &Anchor,
+    page: &mut Page,
+) -> Result<(), Mismatch>
+    requires within { from + len ≤ length raw.now }
+    requires fits { len ≤ 4096 }
+    ensures page { page.new ≡ padded (slice_range raw.now from (from + len)) }
+    ensures met { OnOk result (page_hash anchor.now.salt page.new ≡ anchor.now.digest) }
+    ensures differs { IfErr result (λ e. e.expected.0 ≢ e.found.0) }
+    ensures expected { IfErr result (λ e. e.expected.0 ≡ anchor.now.digest) }
+    ensures found { IfErr result (λ e. e.found.0 ≡ page_hash anchor.now.salt page.new) }
+    ensures level { IfErr result (λ e. e.level ≡ anchor.now.level) }
+    ensures index { IfErr result (λ e. e.index ≡ anchor.now.index) }
+{
+    pad_into(&raw.layout()[from..from + len], page);
+    let found = hash_page(&anchor.salt, page);
+    if anchor.digest != found {
+        return Err(Mismatch {
+            level: anchor.level,
+            index: anchor.index,
+            expected: anchor.digest,
+            found,
+        });
+    }
+    Ok(())
 }
 
 /// Pads a piece of an answer with zeros into the page, and proves the page where its hash is the anchor's digest.
@@ -131,22 +163,29 @@ pub fn check<'a>(
     ensures met { IfOk result IsMet }
     ensures differs { IfErr result (λ e. e.expected.0 ≢ e.found.0) }
     ensures expected { IfErr result (λ e. e.expected.0 ≡ anchor.now.digest) }
-    ensures found { IfErr result (λ e. e.found.0 ≡ page_hash anchor.now.salt (padded (slice_range raw.now from (from + len)))) }
+    ensures found { IfErr result (λ e.
+        e.found.0 ≡ page_hash anchor.now.salt (padded (slice_range raw.now from (from + len)))) }
     ensures level { IfErr result (λ e. e.level ≡ anchor.now.level) }
     ensures index { IfErr result (λ e. e.index ≡ anchor.now.index) }
 {
-    pad_into(&raw.layout()[from..from + len], page);
-    let anchor = *anchor;
-    let found = hash_page(&anchor.salt, page);
-    if anchor.digest != found {
-        return Err(Mismatch {
-            level: anchor.level,
-            index: anchor.index,
-            expected: anchor.digest,
-            found,
-        });
+    match meets(raw, from, len, anchor, page) {
+        Ok(()) => Ok(Proved::new(page, anchor)),
+        Err(mismatch) => Err(mismatch),
     }
-    Ok(Proved { page, anchor })
+}
+
+impl<'a> Proved<'a> {
+    // A page whose hash was compared.
+    pub(crate) fn new(page: &'a Page, anchor: &Anchor) -> Proved<'a>
+        requires met { page_hash anchor.now.salt page.now ≡ anchor.now.digest }
+        ensures page { result.page ≡ page.now }
+        ensures anchor { result.anchor ≡ anchor.now }
+    {
+        Proved {
+            page,
+            anchor: *anchor,
+        }
+    }
 }
 
 impl<'a> Proved<'a> {

@@ -224,7 +224,7 @@ fn walk_file<R: Abort>(
     assert_eq!(rt; (size + 4095) / 4096, measure.blocks);
     let layout = Layout::File { file: 7, size };
     host.calls.clear();
-    let page = walk_page(host, &layout, measure, index, buf)?;
+    let page = walk_page(host, &layout, measure, index, &mut buf.raw, &mut buf.page)?;
     Ok(agrees(page.bytes(), size, index))
 }
 
@@ -250,7 +250,7 @@ fn walk_parts<R: Abort>(
     };
     host.calls.clear();
     let size = host.size;
-    let page = walk_page(host, &layout, measure, index, buf)?;
+    let page = walk_page(host, &layout, measure, index, &mut buf.raw, &mut buf.page)?;
     Ok(agrees(page.bytes(), size, index))
 }
 

@@ -3,11 +3,11 @@ ghost use Rattle.std.specs.Prelude.{◌≡◌, ℕ, ◌+◌, ◌-◌, ◌*◌, �
 ghost use Rattle.host_traits.specs.Did.{Did};
 ghost use Rattle.sha_tree.specs.Tree.{page_hash, padded, top, pages_at};
 ghost use Rattle.verity_path.specs.Calls.{Suits, IsOnPath};
-ghost use Rattle.verity_path.specs.Steps.{IsCallFor, FetchOutcome, DescentOutcome};
+ghost use Rattle.verity_path.specs.Steps.{IsCallFor, FetchOutcome, ProvedOutcome, DescentOutcome};
 ghost use Rattle.verity_path.specs.Walk.{WalkOutcome};
 
 use crate::ask::{ask, piece_of};
-use crate::states::{Anchor, Mismatch, Proved, check};
+use crate::states::{Anchor, Mismatch, Proved, meets};
 use host_traits::{Host, HostError, Raw};
 use mg_base::Page;
 use sha_tree::{Geometry, Measure, ancestor_of};
@@ -21,7 +21,7 @@ pub enum Layout {
     Parts { disk: u32, first: u64, tree: u64 },
 }
 
-/// Room for an answer and a page.
+/// Room for an answer and a page, as a caller keeps them.
 #[derive(Drop)]
 pub struct Buffers {
     /// For the host's answer.
@@ -43,23 +43,27 @@ pub enum WalkFault {
     Memory,
 }
 
-// Asks for the page of an anchor, and proves it.
-fn fetch<'a, H: Host>(
+/// Asks for the page of an anchor, which stands at these places of the host, in a tree over `geometry`'s blocks, and compares its
+/// hash with the anchor's digest. It makes one call and takes no memory. After Ok and after a mismatch the page that was heard
+/// is in `page`; after any other fault `page` is as before. What `raw` holds afterwards is nobody's to use.
+pub fn fetch_page<H: Host>(
     host: &mut H,
     layout: &Layout,
     geometry: &Geometry,
     anchor: &Anchor,
-    buf: &'a mut Buffers,
-) -> Result<Proved<'a>, WalkFault>
+    raw: &mut Raw,
+    page: &mut Page,
+) -> Result<(), WalkFault>
     requires low { anchor.now.level ≤ top geometry.now }
     requires within { anchor.now.index < pages_at geometry.now anchor.now.level }
     requires suits { Suits layout.now geometry.now }
-    ensures { Did (IsCallFor layout.now geometry.now anchor.now.level anchor.now.index) 1 (H.told host.old) (H.told host.new)
-        (FetchOutcome layout.now geometry.now anchor.now result) }
+    ensures { Did (IsCallFor layout.now geometry.now anchor.now.level anchor.now.index) 1
+        (H.told host.old) (H.told host.new)
+        (FetchOutcome layout.now geometry.now anchor.now page.old page.new result) }
 {
     let level = anchor.level();
     let index = anchor.index();
-    match ask(host, layout, geometry, level, index, &mut buf.raw) {
+    match ask(host, layout, geometry, level, index, raw) {
         Ok(()) => {}
         Err(HostError::Failed) => {
             let faults = host.faults();
@@ -68,16 +72,38 @@ fn fetch<'a, H: Host>(
         Err(HostError::Memory) => return Err(WalkFault::Memory),
     }
     let piece = piece_of(layout, geometry, level, index);
-    let got = buf.raw.len() as u64;
+    let got = raw.len() as u64;
     if got < piece.asked {
         return Err(WalkFault::Short {
             asked: piece.asked,
             got,
         });
     }
-    match check(&buf.raw, piece.from, piece.len, anchor, &mut buf.page) {
-        Ok(page) => Ok(page),
+    match meets(raw, piece.from, piece.len, anchor, page) {
+        Ok(()) => Ok(()),
         Err(mismatch) => Err(WalkFault::Mismatch(mismatch)),
+    }
+}
+
+// Asks for the page of an anchor, and proves it.
+fn fetch<'a, H: Host>(
+    host: &mut H,
+    layout: &Layout,
+    geometry: &Geometry,
+    anchor: &Anchor,
+    raw: &mut Raw,
+    page: &'a mut Page,
+) -> Result<Proved<'a>, WalkFault>
+    requires low { anchor.now.level ≤ top geometry.now }
+    requires within { anchor.now.index < pages_at geometry.now anchor.now.level }
+    requires suits { Suits layout.now geometry.now }
+    ensures { Did (IsCallFor layout.now geometry.now anchor.now.level anchor.now.index) 1
+        (H.told host.old) (H.told host.new)
+        (ProvedOutcome layout.now geometry.now anchor.now result) }
+{
+    match fetch_page(host, layout, geometry, anchor, raw, page) {
+        Ok(()) => Ok(Proved::new(page, anchor)),
+        Err(fault) => Err(fault),
     }
 }
 
@@ -88,37 +114,40 @@ fn descend<H: Host>(
     geometry: &Geometry,
     block: u64,
     anchor: &Anchor,
-    buf: &mut Buffers,
+    raw: &mut Raw,
+    page: &mut Page,
 ) -> Result<Anchor, WalkFault>
     requires limit { geometry.now ≤ 1048576 }
     requires some { 1 ≤ anchor.now.level }
     requires low { anchor.now.level ≤ top geometry.now }
     requires within { anchor.now.index < pages_at geometry.now anchor.now.level }
     requires suits { Suits layout.now geometry.now }
-    ensures { Did (IsCallFor layout.now geometry.now anchor.now.level anchor.now.index) 1 (H.told host.old) (H.told host.new)
+    ensures { Did (IsCallFor layout.now geometry.now anchor.now.level anchor.now.index) 1
+        (H.told host.old) (H.told host.new)
         (DescentOutcome layout.now geometry.now block anchor.now result) }
 {
     let slot = ancestor_of(block, anchor.level() - 1) % 128;
-    match fetch(host, layout, geometry, anchor, buf) {
+    match fetch(host, layout, geometry, anchor, raw, page) {
         Ok(page) => Ok(page.child(slot as u32)),
         Err(fault) => Err(fault),
     }
 }
 
-/// Walks from the top page of a measure down to a block, and proves each page on the way. It asks the host for at most one
-/// page more than the top level's number, and takes no memory.
+/// Walks from the top page of a measure down to a block, and proves each page on the way. It makes at most one call more than
+/// the top level's number, from the top page on and none after one that failed, and takes no memory.
 pub fn walk_page<'a, H: Host>(
     host: &mut H,
     layout: &Layout,
     measure: &Measure,
     index: u64,
-    buf: &'a mut Buffers,
+    raw: &mut Raw,
+    page: &'a mut Page,
 ) -> Result<Proved<'a>, WalkFault>
     requires within { index < measure.now.blocks }
     requires limit { measure.now.blocks ≤ 1048576 }
     requires suits { Suits layout.now measure.now.blocks }
-    ensures { Did (IsOnPath layout.now measure.now index) (top measure.now.blocks + 1) (H.told host.old) (H.told host.new)
-        (WalkOutcome layout.now measure.now index result) }
+    ensures { Did (IsOnPath layout.now measure.now index) (top measure.now.blocks + 1)
+        (H.told host.old) (H.told host.new) (WalkOutcome layout.now measure.now index result) }
 {
     let Some(geometry) = Geometry::new(measure.blocks) else {
         unreachable!()
@@ -128,12 +157,12 @@ pub fn walk_page<'a, H: Host>(
     };
     let mut level = geometry.top();
     'levels: while level > 0 {
-        let below = match descend(host, layout, &geometry, index, &anchor, buf) {
+        let below = match descend(host, layout, &geometry, index, &anchor, raw, page) {
             Ok(below) => below,
             Err(fault) => return Err(fault),
         };
         anchor = below;
         level -= 1;
     }
-    fetch(host, layout, &geometry, &anchor, buf)
+    fetch(host, layout, &geometry, &anchor, raw, page)
 }

@@ -28,7 +28,7 @@ returns-in-Err g c =
 
 pub levels-preserved : goal.levels-preserved
 levels-preserved g c = record {
-  at = next_at c.args.measure.now c.args.index c.levels.anchor c.in-Ok.below c.levels.level _ c.levels-test.true c.levels.invariant.at c.in-Ok.ensures.outcome;
+  at = next_at c.args.measure.now c.args.index c.args.layout.now _ c.levels.anchor c.in-Ok.below c.levels.level _ c.levels-test.true c.levels.invariant.at c.in-Ok.ensures.outcome;
   did = goes_on c.args.layout.now c.args.measure.now c.args.index _ c.in-Some.ensures.value c.requires.within
       c.levels.anchor c.in-Ok.below c.levels.level _ _ _ c.levels-test.true c.levels.invariant.at c.levels.invariant.did c.in-Ok.ensures;
 }
