@@ -157,7 +157,7 @@ fn boots(alloc: Global, text: &str, tape: Vec<u8>) -> Result<String, Fail> {
         &mut host,
         plan.lines.as_slice(),
         plan.numbers.as_slice(),
-        &mut buf,
+        &mut buf.raw,
     ) {
         Ok(opened) => {
             let (items, files) = (opened.items.len(), opened.files.len());
