@@ -1,12 +1,12 @@
 -- What the lines make.
-use Rattle.std.proofs.Common.{◌≡◌, ℕ, ◌*◌, ◌≤◌, ◌∙◌, zero, suc, List, [], ◌∷◌, ◌++◌, Option, Some, None, Bor, Result, Ok, Err, refl, ap, sym, subst, inl, inr, arith}
+use Rattle.std.proofs.Common.{◌≡◌, ℕ, ◌*◌, ◌≤◌, ◌∙◌, zero, suc, List, [], ◌∷◌, ◌++◌, Option, Some, None, Bor, Result, Ok, Err, refl, ap, sym, subst, inl, inr, arith, append-nil}
 use Rattle.std.specs.Prelude.{MatchOption, option_copied}
 use Rattle.mg_base.specs.declared.values.Span.{Span}
 use Rattle.host_traits.specs.declared.calls.Call.{Call}
 use Rattle.host_traits.specs.declared.calls.Said.TheVariants.{Bytes}
 use Rattle.host_traits.specs.Told.{Told, Exchanges}
 use Rattle.host_traits.specs.Did.{Did, Trace, trace_of}
-use Rattle.host_traits.proofs.Doing.{did_none, did_so, did_then, failed_later}
+use Rattle.host_traits.proofs.Doing.{did_none, did_so, did_then, failed_later, short_later, scarce_later}
 use Rattle.apk_verity.specs.declared.ApkFault.{ApkFault}
 use Rattle.apk_verity.specs.declared.ApkFault.TheVariants as apks
 use Rattle.apk_verity.specs.Opening.{Opening, opening, idsig_call, IsIdsigCall, IsOpened, OpenOutcome, opened}
@@ -14,15 +14,19 @@ use Rattle.guest_plan.specs.declared.plan.How.{How}
 use Rattle.guest_plan.specs.declared.plan.PlanLine.{PlanLine}
 use Rattle.guest_plan.specs.declared.plan.PlanLine.TheVariants as line
 use Rattle.mg_base.specs.declared.values.Digest.{Digest}
-use Rattle.ro_file.specs.Opening.{IsDescriptorCall}
+use Rattle.ro_file.specs.declared.files.RoFault.{RoFault}
+use Rattle.ro_file.specs.declared.files.RoFault.TheVariants as files
+use Rattle.ro_file.specs.Files.{MeasuredFile}
+use Rattle.ro_file.specs.Opening.{IsDescriptorCall, OpenFileOutcome}
 use Rattle.guest_boot.specs.declared.faults.BootCause.{BootCause}
 use Rattle.guest_boot.specs.declared.faults.BootCause.TheVariants.{Gpt, NoPart, Apk, File, Failed, Short, Memory}
-use Rattle.guest_boot.specs.Finding.{TableOn, IsTableCall, FindsParts, PartsFail, PartsOutcome}
+use Rattle.guest_boot.specs.Finding.{TableOn, IsTableCall, table_on, HasSoFar, FindsParts, PartsFail, PartsOutcome}
+use Rattle.guest_boot.proofs.Finds.{so_far}
 use Rattle.sha_tree.specs.declared.measure.Measure.{Measure}
 use Rattle.sha_tree.specs.Tree.{block_count}
 use Rattle.guest_plan.specs.Spelling.{IsDevice}
 use Rattle.verity_path.specs.declared.device.Device.{Device}
-use Rattle.guest_boot.specs.Booting.{IsItem, AreItems, device_on, Booted, measure_in, IsForApk, ApkBoots, ApkFails, ApkIsRefused, apk_cause, BlobOutcome, FileOutcome, LineOutcome, IsForLine, most_of_line, ApkOutcome}
+use Rattle.guest_boot.specs.Booting.{IsItem, AreItems, device_on, Booted, measure_in, IsForApk, ApkBoots, ApkFails, ApkIsRefused, apk_cause, BlobOutcome, FileFails, file_cause, FileOutcome, LineOutcome, IsForLine, most_of_line, ApkOutcome}
 
 fits : (m : ℕ) → block_count (4096 * m) ≡ m
 fits m = omega arith
@@ -43,20 +47,20 @@ pub copied_is : (r : Option (Bor Measure)) (x : Option Measure) → MatchOption 
 copied_is None x is = sym is
 copied_is (Some m) x is = sym is
 
-module _ (o : Opening) (a b c : Told) (y : Exchanges) (le : a.faults ≤ b.faults) where
-  opened_later : (r : Result Device ApkFault) → IsOpened o r (trace_of y b c) → IsOpened o r (trace_of y a c)
-  opened_later r i = record { bytes = i.bytes; own = i.own; few = i.few; is = i.is }
+module _ (o : Opening) (a b c : Told) (y : Exchanges) (failed : ℕ) (le : a.faults ≤ b.faults) where
+  opened_later : (r : Result Device ApkFault) → IsOpened o r (trace_of y failed b c) → IsOpened o r (trace_of y failed a c)
+  opened_later r i = record { failed = i.failed; bytes = i.bytes; own = i.own; few = i.few; is = i.is }
 
-  pub open_later : (f : ApkFault) → OpenOutcome o (Err f) (trace_of y b c) → OpenOutcome o (Err f) (trace_of y a c)
-  open_later (apks.Failed faults) q = (q.0, failed_later (IsIdsigCall o) a b c [] y faults le q.1)
-  open_later (apks.Short asked got) q = (opened_later _ q.0, record { call = q.1.call; bytes = q.1.bytes; own = q.1.own; asks = q.1.asks; got_is = q.1.got_is; short = q.1.short })
+  pub open_later : (f : ApkFault) → OpenOutcome o (Err f) (trace_of y failed b c) → OpenOutcome o (Err f) (trace_of y failed a c)
+  open_later (apks.Failed faults) q = (q.0, failed_later (IsIdsigCall o) a b c [] y failed faults le q.1)
+  open_later (apks.Short asked got) q = (opened_later _ q.0, short_later a b c [] y failed asked got q.1)
   open_later (apks.Idsig fault) q = opened_later _ q
   open_later apks.SaltMismatch q = opened_later _ q
   open_later (apks.RootMismatch expected found) q = opened_later _ q
   open_later (apks.TooFewBlocks blocks) q = opened_later _ q
   open_later (apks.TooManyBlocks blocks) q = opened_later _ q
   open_later (apks.SpanShort blocks sectors) q = opened_later _ q
-  open_later apks.Memory q = q
+  open_later apks.Memory q = (q.0, scarce_later a b c [] y failed q.1)
 
 module _ (s : Booted) (disk : ℕ) (apk idsig : List ℕ) (how : How) where
   no_parts : (why : BootCause) (t : Trace) → PartsFail s.tables disk apk idsig why t → ApkFails s disk apk idsig how why t
@@ -66,7 +70,7 @@ module _ (s : Booted) (disk : ℕ) (apk idsig : List ℕ) (how : How) where
   no_parts (File f) t h = h
   no_parts (Failed faults) t h = h
   no_parts (Short asked got) t h = h
-  no_parts Memory t h = h
+  no_parts Memory t h = (h.0, inl h.1)
 
   pub apk_no_parts : (a b : Told) (why : BootCause) (tables : List TableOn) (new : Booted) → Did (IsTableCall disk) 3 a b (PartsOutcome s.tables disk apk idsig tables (Err why))
       → Did (IsForApk disk) 4 a b (ApkOutcome s disk apk idsig how new (Err why))
@@ -78,15 +82,16 @@ module _ (s : Booted) (disk : ℕ) (apk idsig : List ℕ) (how : How) where
     for_idsig call is = inr (parts.1, is.call_is ∙ ap idsig_call o_is)
 
     both : (P R : Trace → Type 0) → Did (IsIdsigCall o) 1 b c P
-        → ((x y : Exchanges) → a.faults ≤ b.faults → FindsParts s.tables disk apk idsig x tables parts → P (trace_of y b c) → R (trace_of (x ++ y) a c))
+        → ((x y : Exchanges) (failed : ℕ) → a.faults ≤ b.faults → FindsParts s.tables disk apk idsig x tables parts → P (trace_of y failed b c) → R (trace_of (x ++ y) failed a c))
         → Did (IsForApk disk) 4 a c R
-    both P R e f = did_then (IsForApk disk) 3 1 a b c _ P R (did_so _ _ 3 3 a b _ _ d (λ call is. inl is) (omega arith) (λ t p. p)) (did_so _ _ 1 1 b c _ _ e for_idsig (omega arith) (λ t p. p)) f
+    both P R e f = did_then (IsForApk disk) 3 1 a b c _ P R (did_so _ _ 3 3 a b _ _ d (λ call is. inl is) (omega arith) (λ t p. p)) (did_so _ _ 1 1 b c _ _ e for_idsig (omega arith) (λ t p. p)) (λ t p. p.0) (λ x y failed le p q. f x y failed le p.1 q)
 
-    pub apk_memory : (new : Booted) (P : Trace → Type 0) → Did (IsIdsigCall o) 1 b c P → Did (IsForApk disk) 4 a c (ApkOutcome s disk apk idsig how new (Err Memory))
-    apk_memory new P e = both P _ e (λ x y le p q. tt)
+    refused : (f : ApkFault) (x y : Exchanges) (failed : ℕ) → a.faults ≤ b.faults → FindsParts s.tables disk apk idsig x tables parts → OpenOutcome o (Err f) (trace_of y failed b c)
+        → ApkIsRefused s disk apk idsig how f (trace_of (x ++ y) failed a c)
+    refused f x y failed le p q = record { first = x; rest = y; cut = refl; tables = tables; parts = parts; found = p; outcome = subst (λ (z : Opening). OpenOutcome z (Err f) (trace_of y failed a c)) o_is (open_later o a b c y failed le f q) }
 
-    refused : (f : ApkFault) (x y : Exchanges) → a.faults ≤ b.faults → FindsParts s.tables disk apk idsig x tables parts → OpenOutcome o (Err f) (trace_of y b c) → ApkIsRefused s disk apk idsig how f (trace_of (x ++ y) a c)
-    refused f x y le p q = record { first = x; rest = y; cut = refl; tables = tables; parts = parts; found = p; outcome = subst (λ (z : Opening). OpenOutcome z (Err f) (trace_of y a c)) o_is (open_later o a b c y le f q) }
+    found_so_far : (first own : Exchanges) (tables2 : List TableOn) (parts2 : Span × Span) → FindsParts s.tables disk apk idsig first tables2 parts2 → own ≡ first → HasSoFar (table_on disk s.tables) disk own
+    found_so_far first own tables2 parts2 p e = subst (HasSoFar (table_on disk s.tables) disk) (sym e) (so_far disk (table_on disk s.tables) first p.table p.has)
 
     named : (f : ApkFault) (t : Trace) → ApkIsRefused s disk apk idsig how f t → ApkFails s disk apk idsig how (apk_cause f) t
     named (apks.Failed faults) t h = h
@@ -97,14 +102,14 @@ module _ (s : Booted) (disk : ℕ) (apk idsig : List ℕ) (how : How) where
     named (apks.TooFewBlocks blocks) t h = h
     named (apks.TooManyBlocks blocks) t h = h
     named (apks.SpanShort blocks sectors) t h = h
-    named apks.Memory t h = tt
+    named apks.Memory t h = (h.outcome.1.failed, inl (found_so_far h.first t.own h.tables h.parts h.found (h.cut ∙ ap (λ (z : Exchanges). h.first ++ z) h.outcome.0 ∙ append-nil h.first)))
 
     pub apk_refused : (new : Booted) (f : ApkFault) → Did (IsIdsigCall o) 1 b c (OpenOutcome o (Err f)) → Did (IsForApk disk) 4 a c (ApkOutcome s disk apk idsig how new (Err (apk_cause f)))
-    apk_refused new f e = both _ _ e (λ x y le p q. named f _ (refused f x y le p q))
+    apk_refused new f e = both _ _ e (λ x y failed le p q. named f _ (refused f x y failed le p q))
 
-    boots : (new : Booted) (device : Device) (x y : Exchanges) → new ≡ record { tables = tables; items = s.items ++ device ∷ []; files = s.files } → FindsParts s.tables disk apk idsig x tables parts
-        → IsOpened o (Ok device) (trace_of y b c) → ApkBoots s disk apk idsig how (x ++ y) new
-    boots new device x y e p q = record {
+    boots : (new : Booted) (device : Device) (x y : Exchanges) (failed : ℕ) → new ≡ record { tables = tables; items = s.items ++ device ∷ []; files = s.files } → FindsParts s.tables disk apk idsig x tables parts
+        → IsOpened o (Ok device) (trace_of y failed b c) → ApkBoots s disk apk idsig how (x ++ y) new
+    boots new device x y failed e p q = record {
       first = x;
       tables = tables;
       parts = parts;
@@ -118,7 +123,29 @@ module _ (s : Booted) (disk : ℕ) (apk idsig : List ℕ) (how : How) where
 
     pub apk_boots : (new : Booted) (device : Device) → new ≡ record { tables = tables; items = s.items ++ device ∷ []; files = s.files } → Did (IsIdsigCall o) 1 b c (OpenOutcome o (Ok device))
         → Did (IsForApk disk) 4 a c (ApkOutcome s disk apk idsig how new (Ok tt))
-    apk_boots new device e d2 = both _ _ d2 (λ x y le p q. boots new device x y e p q)
+    apk_boots new device e d2 = both _ _ d2 (λ x y failed le p q. (q.failed, boots new device x y failed e p q))
+
+    -- the device was made, and the list of devices had no room for it
+    pub apk_memory : (new : Booted) (device : Device) → Did (IsIdsigCall o) 1 b c (OpenOutcome o (Ok device)) → Did (IsForApk disk) 4 a c (ApkOutcome s disk apk idsig how new (Err Memory))
+    apk_memory new device e = both _ _ e (λ x y failed le p q. (q.failed, inr (_, boots (record { tables = tables; items = s.items ++ device ∷ []; files = s.files }) device x y failed refl p q)))
+
+-- ---- a file
+
+module _ (file : ℕ) (digest : Digest) (s new : Booted) (a b : Told) where
+  named_file : (f : RoFault) (t : Trace) → OpenFileOutcome file digest (Err f) t → FileFails file digest (file_cause f) t
+  named_file (files.Failed faults) t h = h
+  named_file (files.Short asked got) t h = h
+  named_file (files.DigestMismatch expected found) t h = h
+  named_file (files.Descriptor broken) t h = h
+  named_file (files.TooLong size) t h = h
+  named_file files.Memory t h = (h.1.failed, inl h.0)
+
+  pub file_refused : (f : RoFault) → Did (IsDescriptorCall file) 1 a b (OpenFileOutcome file digest (Err f)) → Did (IsDescriptorCall file) 1 a b (FileOutcome s file digest new (Err (file_cause f)))
+  file_refused f d = did_so _ _ 1 1 a b _ _ d (λ call x. x) (omega arith) (named_file f)
+
+  -- the file was opened, and the list of files had no room for it
+  pub file_memory : (f : MeasuredFile) → Did (IsDescriptorCall file) 1 a b (OpenFileOutcome file digest (Ok f)) → Did (IsDescriptorCall file) 1 a b (FileOutcome s file digest new (Err Memory))
+  file_memory f d = did_so _ _ 1 1 a b _ _ d (λ call x. x) (omega arith) (λ t o. (o.failed, inr (o.bytes, f, o.own, o.is)))
 
 -- ---- lines
 
@@ -126,8 +153,8 @@ abbrev DidLine : Booted → Booted → Told → Told → Result (Unit {0}) BootC
 DidLine s new a b r l = Did (IsForLine l) (most_of_line l) a b (LineOutcome s l new r)
 
 pub did_blob : (s new : Booted) (file : ℕ) (m : Measure) (a : Told) (r : Result (Unit {0}) BootCause) → BlobOutcome s file m new r → DidLine s new a a r (line.Blob file m)
-did_blob s new file m a (Ok u) e = did_none _ 0 a _ (refl, e)
-did_blob s new file m a (Err why) e = did_none _ 0 a _ e
+did_blob s new file m a (Ok u) e = did_none _ 0 a _ (refl, (refl, e))
+did_blob s new file m a (Err why) e = did_none _ 0 a _ (refl, e)
 
 apk_line : (s new : Booted) (disk : ℕ) (apk idsig : List ℕ) (how : How) (r : Result (Unit {0}) BootCause) (t : Trace) → ApkOutcome s disk apk idsig how new r t → LineOutcome s (line.Apk disk apk idsig how) new r t
 apk_line s new disk apk idsig how (Ok u) t h = h

@@ -58,8 +58,8 @@ boots_on s mid new (k ∷ xs) l x y h b =
 
 -- ---- a line that failed, seen from before
 
-module _ (a b c : Told) (y : Exchanges) (le : a.faults ≤ b.faults) where
-  refused_later : (s : Booted) (disk : ℕ) (apk idsig : List ℕ) (how : How) (f : ApkFault) → ApkIsRefused s disk apk idsig how f (trace_of y b c) → ApkIsRefused s disk apk idsig how f (trace_of y a c)
+module _ (a b c : Told) (y : Exchanges) (failed : ℕ) (le : a.faults ≤ b.faults) where
+  refused_later : (s : Booted) (disk : ℕ) (apk idsig : List ℕ) (how : How) (f : ApkFault) → ApkIsRefused s disk apk idsig how f (trace_of y failed b c) → ApkIsRefused s disk apk idsig how f (trace_of y failed a c)
   refused_later s disk apk idsig how f h = record {
     first = h.first;
     rest = h.rest;
@@ -67,10 +67,10 @@ module _ (a b c : Told) (y : Exchanges) (le : a.faults ≤ b.faults) where
     tables = h.tables;
     parts = h.parts;
     found = h.found;
-    outcome = open_later (opening disk h.parts.0 h.parts.1 (measure_in how)) a b c h.rest le f h.outcome;
+    outcome = open_later (opening disk h.parts.0 h.parts.1 (measure_in how)) a b c h.rest failed le f h.outcome;
   }
 
-  apk_later : (s : Booted) (disk : ℕ) (apk idsig : List ℕ) (how : How) (why : BootCause) → ApkFails s disk apk idsig how why (trace_of y b c) → ApkFails s disk apk idsig how why (trace_of y a c)
+  apk_later : (s : Booted) (disk : ℕ) (apk idsig : List ℕ) (how : How) (why : BootCause) → ApkFails s disk apk idsig how why (trace_of y failed b c) → ApkFails s disk apk idsig how why (trace_of y failed a c)
   apk_later s disk apk idsig how (Gpt f) h = h
   apk_later s disk apk idsig how (NoPart name) h = h
   apk_later s disk apk idsig how (Apk (apks.Failed faults)) h = refused_later s disk apk idsig how _ h
@@ -83,15 +83,15 @@ module _ (a b c : Told) (y : Exchanges) (le : a.faults ≤ b.faults) where
   apk_later s disk apk idsig how (Apk (apks.SpanShort blocks sectors)) h = refused_later s disk apk idsig how _ h
   apk_later s disk apk idsig how (Apk apks.Memory) h = h
   apk_later s disk apk idsig how (File f) h = h
-  apk_later s disk apk idsig how (Failed faults) h = (h.0, failed_later (TableNext disk y) a b c [] y faults le h.1)
+  apk_later s disk apk idsig how (Failed faults) h = (h.0, failed_later (TableNext disk y) a b c [] y failed faults le h.1)
   apk_later s disk apk idsig how (Short asked got) h = h
   apk_later s disk apk idsig how Memory h = h
 
-  file_again : (file : ℕ) (digest : Digest) (f : RoFault) → IsRefused file digest (trace_of y b c) f → IsRefused file digest (trace_of y a c) f
-  file_again file digest f h = record { bytes = h.bytes; own = h.own; few = h.few; is = h.is }
+  file_again : (file : ℕ) (digest : Digest) (f : RoFault) → IsRefused file digest (trace_of y failed b c) f → IsRefused file digest (trace_of y failed a c) f
+  file_again file digest f h = record { failed = h.failed; bytes = h.bytes; own = h.own; few = h.few; is = h.is }
 
-  file_later : (file : ℕ) (digest : Digest) (why : BootCause) → FileFails file digest why (trace_of y b c) → FileFails file digest why (trace_of y a c)
-  file_later file digest (File (files.Failed faults)) h = (h.0, failed_later (IsDescriptorCall file) a b c [] y faults le h.1)
+  file_later : (file : ℕ) (digest : Digest) (why : BootCause) → FileFails file digest why (trace_of y failed b c) → FileFails file digest why (trace_of y failed a c)
+  file_later file digest (File (files.Failed faults)) h = (h.0, failed_later (IsDescriptorCall file) a b c [] y failed faults le h.1)
   file_later file digest (File (files.Short asked got)) h = file_again file digest _ h
   file_later file digest (File (files.DigestMismatch expected found)) h = file_again file digest _ h
   file_later file digest (File (files.Descriptor fault)) h = file_again file digest _ h
@@ -104,7 +104,7 @@ module _ (a b c : Told) (y : Exchanges) (le : a.faults ≤ b.faults) where
   file_later file digest (Short asked got) h = h
   file_later file digest Memory h = h
 
-  line_later : (s : Booted) (l : PlanLine) (why : BootCause) → LineFails s l why (trace_of y b c) → LineFails s l why (trace_of y a c)
+  line_later : (s : Booted) (l : PlanLine) (why : BootCause) → LineFails s l why (trace_of y failed b c) → LineFails s l why (trace_of y failed a c)
   line_later s (line.Blob file m) why h = h
   line_later s (line.Apk disk apk idsig how) why h = apk_later s disk apk idsig how why h
   line_later s (line.File name file digest) why h = file_later file digest why h
@@ -115,21 +115,21 @@ module _ (a b c : Told) (y : Exchanges) (le : a.faults ≤ b.faults) where
 -- ---- the lines in order
 
 module _ (lines : List PlanLine) (i : ℕ) (l : PlanLine) (lt : i < length lines) (is : l ≡ get_or lines i l) (a b c : Told) (s : Booted)
-    (d : Did (IsForLines lines) (most_of (take i lines)) a b (λ t. Boots nothing (take i lines) t.own s)) where
+    (d : Did (IsForLines lines) (most_of (take i lines)) a b (λ t. (t.failed ≡ 0) × Boots nothing (take i lines) t.own s)) where
   for_lines : (call : Call) → IsForLine l call → IsForLines lines call
   for_lines call f = record { at = i; line = l; stands = slice_get_read lines (length lines) i l refl lt is; for = f }
 
   both : (P R : Trace → Type 0) → Did (IsForLine l) (most_of_line l) b c P
-      → ((x y : Exchanges) → a.faults ≤ b.faults → Boots nothing (take i lines) x s → P (trace_of y b c) → R (trace_of (x ++ y) a c))
+      → ((x y : Exchanges) (failed : ℕ) → a.faults ≤ b.faults → Boots nothing (take i lines) x s → P (trace_of y failed b c) → R (trace_of (x ++ y) failed a c))
       → Did (IsForLines lines) (most_of (take i lines) + most_of_line l) a c R
-  both P R e f = did_then (IsForLines lines) (most_of (take i lines)) (most_of_line l) a b c _ P R d (did_so _ _ (most_of_line l) (most_of_line l) b c _ _ e for_lines (omega arith) (λ t p. p)) f
+  both P R e f = did_then (IsForLines lines) (most_of (take i lines)) (most_of_line l) a b c _ P R d (did_so _ _ (most_of_line l) (most_of_line l) b c _ _ e for_lines (omega arith) (λ t p. p)) (λ t p. p.0) (λ x y failed le p q. f x y failed le p.1 q)
 
   pub goes_on : (new : Booted) (u : Unit {0}) → Did (IsForLine l) (most_of_line l) b c (LineOutcome s l new (Ok u))
-      → Did (IsForLines lines) (most_of (take (i + 1) lines)) a c (λ t. Boots nothing (take (i + 1) lines) t.own new)
+      → Did (IsForLines lines) (most_of (take (i + 1) lines)) a c (λ t. (t.failed ≡ 0) × Boots nothing (take (i + 1) lines) t.own new)
   goes_on new u e =
-      subst (λ (front : List PlanLine). Did (IsForLines lines) (most_of front) a c (λ t. Boots nothing front t.own new)) (sym (take_next lines i l lt is))
-      (subst (λ (n : ℕ). Did (IsForLines lines) n a c (λ t. Boots nothing (take i lines ++ l ∷ []) t.own new)) (sym (most_next (take i lines) l))
-      (both _ _ e (λ x y le p q. boots_on nothing s new (take i lines) l x y p q)))
+      subst (λ (front : List PlanLine). Did (IsForLines lines) (most_of front) a c (λ t. (t.failed ≡ 0) × Boots nothing front t.own new)) (sym (take_next lines i l lt is))
+      (subst (λ (n : ℕ). Did (IsForLines lines) n a c (λ t. (t.failed ≡ 0) × Boots nothing (take i lines ++ l ∷ []) t.own new)) (sym (most_next (take i lines) l))
+      (both _ _ e (λ x y failed le p q. (q.0, boots_on nothing s new (take i lines) l x y p q.1))))
 
   pub stops : (numbers : List ℕ) (n : ℕ) (why : BootCause) (new : Booted) → slice_get numbers i ≡ Some n → Did (IsForLine l) (most_of_line l) b c (LineOutcome s l new (Err why))
       → Did (IsForLines lines) (most_of lines) a c (BootOutcome lines numbers (Err (record { line = n; why = why })))
@@ -137,7 +137,7 @@ module _ (lines : List PlanLine) (i : ℕ) (l : PlanLine) (lt : i < length lines
       let cut = split_at lines i l lt is in
       let len : length (take i lines) ≡ i = omega (arith, length-take i lines, lt) in
       let few : most_of (take i lines) + most_of_line l ≤ most_of lines = subst (λ (z : List PlanLine). most_of (take i lines) + most_of_line l ≤ most_of z) (sym cut) (most_within (take i lines) (drop (suc i) lines) l) in
-      did_so _ _ _ _ a c _ _ (both _ _ e (λ x y le p q. record {
+      did_so _ _ _ _ a c _ _ (both _ _ e (λ x y failed le p q. record {
         before = take i lines;
         line = l;
         after = drop (suc i) lines;
@@ -148,5 +148,5 @@ module _ (lines : List PlanLine) (i : ℕ) (l : PlanLine) (lt : i < length lines
         cut = refl;
         mid = s;
         booted = p;
-        fails = line_later a b c y le s l why q;
+        fails = line_later a b c y failed le s l why q;
       })) (λ call f. f) few (λ t p. p)

@@ -30,7 +30,7 @@ use Rattle.guest_boot.specs.declared.faults.BootCause.TheVariants.{Apk, File, Me
 use Rattle.guest_boot.specs.declared.faults.BootFault.{BootFault}
 use Rattle.guest_boot.specs.declared.lines.Boot.{Boot}
 use Rattle.guest_boot.specs.declared.lines.Opened.{Opened}
-use Rattle.guest_boot.specs.Finding.{TableOn, IsTableCall, FindsParts, PartsFail}
+use Rattle.guest_boot.specs.Finding.{TableOn, IsTableCall, table_on, HasSoFar, FindsParts, PartsFail}
 
 -- ---- which lines are opened
 
@@ -55,6 +55,8 @@ PlansAreServed = (text : List ℕ) (plan : Known) → IsPlan text plan → AreSe
 
 -- ---- the calls of a line
 
+-- Which disks and files they ask for, and how much. At which places is said by what came of the line: each answer stands at its
+-- place, and a call that failed is the one that comes next.
 abbrev pub IsForApk : ℕ → Call → Type 0
 IsForApk disk call = IsTableCall disk call ⊎ ((part : Span) × (call ≡ BlockRead disk part.first (min part.sectors 136)))
 
@@ -147,7 +149,7 @@ Boots s (l ∷ lines) own new = (first : Exchanges) × (rest : Exchanges) × (mi
 
 -- the same trace, where the exchanges are only the later ones
 abbrev pub later_of : Trace → Exchanges → Trace
-later_of t own = record { heard = own; own = own; before = t.before; after = t.after; last_failed = t.last_failed; scarce = t.scarce }
+later_of t own = record { heard = own; own = own; failed = t.failed; before = t.before; after = t.after; last_failed = t.last_failed; scarce = t.scarce }
 
 -- the two parts were found, and opening the device came to this
 pub record ApkIsRefused (s : Booted) (disk : ℕ) (apk idsig : List ℕ) (how : How) (why : ApkFault) (t : Trace) : Type 0 where
@@ -159,15 +161,26 @@ pub record ApkIsRefused (s : Booted) (disk : ℕ) (apk idsig : List ℕ) (how : 
   pub found : FindsParts s.tables disk apk idsig first tables parts
   pub outcome : apk_opening.OpenOutcome (apk_opening.opening disk parts.0 parts.1 (measure_in how)) (Err why) (later_of t rest)
 
+-- there was no memory: the table's exchanges were made as far as that, or all exchanges of the line
+abbrev pub ApkStops : Booted → ℕ → List ℕ → List ℕ → How → Exchanges → Type 0
+ApkStops s disk apk idsig how own =
+    HasSoFar (table_on disk s.tables) disk own ⊎ ((new : Booted) × ApkBoots s disk apk idsig how own new)
+
 abbrev pub ApkFails : Booted → ℕ → List ℕ → List ℕ → How → BootCause → Trace → Type 0
+ApkFails s disk apk idsig how Memory t = (t.failed ≡ 0) × ApkStops s disk apk idsig how t.own
 ApkFails s disk apk idsig how (Apk apks.Memory) t = ⊥
 ApkFails s disk apk idsig how (Apk why) t = ApkIsRefused s disk apk idsig how why t
 ApkFails s disk apk idsig how why t = PartsFail s.tables disk apk idsig why t
 
+-- there was no memory: nothing was heard, or the descriptor of a file that opens
+abbrev pub FileStops : ℕ → Digest → Exchanges → Type 0
+FileStops file digest own =
+    (own ≡ []) ⊎ ((bytes : List ℕ) × (f : MeasuredFile) × (own ≡ (DescriptorOf file, Bytes bytes) ∷ []) × (file_opening.opened file digest bytes ≡ Ok f))
+
 abbrev pub FileFails : ℕ → Digest → BootCause → Trace → Type 0
 FileFails file digest (File files.Memory) t = ⊥
 FileFails file digest (File why) t = file_opening.OpenFileOutcome file digest (Err why) t
-FileFails file digest Memory t = Unit {0}
+FileFails file digest Memory t = (t.failed ≡ 0) × FileStops file digest t.own
 FileFails file digest other t = ⊥
 
 -- a device on a file of the host makes no call: only memory can be wanting
@@ -176,12 +189,13 @@ BlobFails Memory = Unit {0}
 BlobFails other = ⊥
 
 abbrev pub LineFails : Booted → PlanLine → BootCause → Trace → Type 0
-LineFails s (line.Blob file m) why t = BlobFails why
+LineFails s (line.Blob file m) why t = (t.failed ≡ 0) × BlobFails why
 LineFails s (line.Apk disk apk idsig how) why t = ApkFails s disk apk idsig how why t
 LineFails s (line.File name file digest) why t = FileFails file digest why t
 LineFails s other why t = ⊥
 
 -- The lines before one booted by the first exchanges, and that one failed by the rest, for this reason. Its number is the fault's.
+-- Where the reason is a failed call, that one call failed, and was the last; else no call failed.
 pub record IsFault (lines : List PlanLine) (numbers : List ℕ) (fault : BootFault) (t : Trace) : Type 0 where
   pub before : List PlanLine
   pub line : PlanLine
@@ -211,20 +225,20 @@ BlobOutcome s file m new (Ok u) = new ≡ with_item s (device_on file m)
 BlobOutcome s file m new (Err why) = BlobFails why
 
 abbrev pub ApkOutcome : Booted → ℕ → List ℕ → List ℕ → How → Booted → Result (Unit {0}) BootCause → Trace → Type 0
-ApkOutcome s disk apk idsig how new (Ok u) t = ApkBoots s disk apk idsig how t.own new
+ApkOutcome s disk apk idsig how new (Ok u) t = (t.failed ≡ 0) × ApkBoots s disk apk idsig how t.own new
 ApkOutcome s disk apk idsig how new (Err why) t = ApkFails s disk apk idsig how why t
 
 abbrev pub FileOutcome : Booted → ℕ → Digest → Booted → Result (Unit {0}) BootCause → Trace → Type 0
-FileOutcome s file digest new (Ok u) t = FileBoots s file digest t.own new
+FileOutcome s file digest new (Ok u) t = (t.failed ≡ 0) × FileBoots s file digest t.own new
 FileOutcome s file digest new (Err why) t = FileFails file digest why t
 
 -- what one line made, or why it was not opened
 abbrev pub LineOutcome : Booted → PlanLine → Booted → Result (Unit {0}) BootCause → Trace → Type 0
-LineOutcome s l new (Ok u) t = LineBoots s l t.own new
+LineOutcome s l new (Ok u) t = (t.failed ≡ 0) × LineBoots s l t.own new
 LineOutcome s l new (Err why) t = LineFails s l why t
 
 abbrev pub BootOutcome : List PlanLine → List ℕ → Result Opened BootFault → Trace → Type 0
-BootOutcome lines numbers (Ok o) t = (tables : List TableOn) × Boots nothing lines t.own (record { tables = tables; items = o.items.items; files = o.files.items })
+BootOutcome lines numbers (Ok o) t = (t.failed ≡ 0) × (tables : List TableOn) × Boots nothing lines t.own (record { tables = tables; items = o.items.items; files = o.files.items })
 BootOutcome lines numbers (Err fault) t = IsFault lines numbers fault t
 
 -- an item has from 2 to 1,048,576 blocks, and its places are such

@@ -108,11 +108,16 @@ abbrev pub TableNext : ℕ → Exchanges → Call → Type 0
 TableNext disk own call =
     ((own ≡ []) × IsCall (size_call disk) call) ⊎ (HeardSize disk own × IsCall (head_call disk) call) ⊎ ((h : HeardHead disk own) × IsCall (tail_call disk h.sectors) call)
 
+-- the exchanges of a table, as far as they went: none, or the first ones, each whole
+abbrev pub TableSoFar : ℕ → Exchanges → Type 0
+TableSoFar disk own = (own ≡ []) ⊎ HeardSize disk own ⊎ HeardHead disk own ⊎ HeardEnds disk own
+
+-- where the next call failed, it is the one that did; else none did
 abbrev pub TableFails : ℕ → BootCause → Trace → Type 0
-TableFails disk (Gpt why) t = TableRefused disk t.own why
-TableFails disk (Short asked got) t = EndIsShort disk t.own asked got
+TableFails disk (Gpt why) t = (t.failed ≡ 0) × TableRefused disk t.own why
+TableFails disk (Short asked got) t = (t.failed ≡ 0) × EndIsShort disk t.own asked got
 TableFails disk (Failed faults) t = IsFailed (TableNext disk t.own) t faults
-TableFails disk Memory t = Unit {0}
+TableFails disk Memory t = (t.failed ≡ 0) × TableSoFar disk t.own
 TableFails disk other t = ⊥
 
 -- a disk, and its table
@@ -122,7 +127,7 @@ pub record TableOn : Type 0 where
 
 -- what came of reading a disk's table
 abbrev pub TableOutcome : ℕ → Result TableOn BootCause → Trace → Type 0
-TableOutcome disk (Ok known) t = (known.disk ≡ disk) × ReadsTable disk t.own known.table
+TableOutcome disk (Ok known) t = (t.failed ≡ 0) × (known.disk ≡ disk) × ReadsTable disk t.own known.table
 TableOutcome disk (Err why) t = TableFails disk why t
 
 -- ---- the tables that were read, and the parts in them
@@ -136,6 +141,11 @@ table_on disk (known ∷ tables) = if known.disk == disk then Some known.table e
 abbrev pub HasTable : Option Table → ℕ → Exchanges → Table → Type 0
 HasTable (Some known) disk own table = (own ≡ []) × (table ≡ known)
 HasTable None disk own table = ReadsTable disk own table
+
+-- the same as far as it went: a table that was read before is not asked for again
+abbrev pub HasSoFar : Option Table → ℕ → Exchanges → Type 0
+HasSoFar (Some known) disk own = own ≡ []
+HasSoFar None disk own = TableSoFar disk own
 
 -- the tables that were read, with it
 abbrev pub with_table : Option Table → List TableOn → ℕ → Table → List TableOn
@@ -166,12 +176,12 @@ pub record LacksPart (tables : List TableOn) (disk : ℕ) (apk idsig : List ℕ)
 
 -- why the parts were not found: the table has no such part, or the disk's table was to be read, and was not
 abbrev pub PartsFail : List TableOn → ℕ → List ℕ → List ℕ → BootCause → Trace → Type 0
-PartsFail tables disk apk idsig (NoPart name) t = LacksPart tables disk apk idsig t.own (string_bytes name)
-PartsFail tables disk apk idsig Memory t = Unit {0}
+PartsFail tables disk apk idsig (NoPart name) t = (t.failed ≡ 0) × LacksPart tables disk apk idsig t.own (string_bytes name)
+PartsFail tables disk apk idsig Memory t = (t.failed ≡ 0) × HasSoFar (table_on disk tables) disk t.own
 PartsFail tables disk apk idsig why t = (table_on disk tables ≡ None) × TableFails disk why t
 
 abbrev pub PartsOutcome : List TableOn → ℕ → List ℕ → List ℕ → List TableOn → Result (Span × Span) BootCause → Trace → Type 0
-PartsOutcome tables disk apk idsig new (Ok parts) t = FindsParts tables disk apk idsig t.own new parts
+PartsOutcome tables disk apk idsig new (Ok parts) t = (t.failed ≡ 0) × FindsParts tables disk apk idsig t.own new parts
 PartsOutcome tables disk apk idsig new (Err why) t = PartsFail tables disk apk idsig why t
 
 -- ---- the steps
@@ -183,18 +193,19 @@ gpt_cause why = Gpt why
 
 -- what came of asking for the number of sectors
 abbrev pub SizeOutcome : ℕ → Result ℕ BootCause → Trace → Type 0
-SizeOutcome disk (Ok sectors) t = (t.own ≡ (size_call disk, Number sectors) ∷ []) × (is_sized sectors ≡ true)
-SizeOutcome disk (Err (Gpt why)) t = HeardNoSize disk t.own why
+SizeOutcome disk (Ok sectors) t = (t.failed ≡ 0) × (t.own ≡ (size_call disk, Number sectors) ∷ []) × (is_sized sectors ≡ true)
+SizeOutcome disk (Err (Gpt why)) t = (t.failed ≡ 0) × HeardNoSize disk t.own why
 SizeOutcome disk (Err (Failed faults)) t = (t.own ≡ []) × IsFailed (IsCall (size_call disk)) t faults
-SizeOutcome disk (Err Memory) t = Unit {0}
+SizeOutcome disk (Err Memory) t = (t.failed ≡ 0) × (t.own ≡ [])
 SizeOutcome disk (Err other) t = ⊥
 
 -- the answer to the one call is this, whole
 abbrev pub IsEnd : Call → List ℕ → Trace → Type 0
-IsEnd call bytes t = (t.own ≡ (call, Bytes bytes) ∷ []) × (length bytes ≡ 20480)
+IsEnd call bytes t = (t.failed ≡ 0) × (t.own ≡ (call, Bytes bytes) ∷ []) × (length bytes ≡ 20480)
 
 -- it came short
 pub record IsShortEnd (call : Call) (t : Trace) (asked got : ℕ) : Type 0 where
+  pub failed : t.failed ≡ 0
   pub bytes : List ℕ
   pub own_is : t.own ≡ (call, Bytes bytes) ∷ []
   pub asked_is : asked ≡ 20480
@@ -204,7 +215,7 @@ pub record IsShortEnd (call : Call) (t : Trace) (asked got : ℕ) : Type 0 where
 abbrev pub EndFails : Call → BootCause → Trace → Type 0
 EndFails call (Short asked got) t = IsShortEnd call t asked got
 EndFails call (Failed faults) t = (t.own ≡ []) × IsFailed (IsCall call) t faults
-EndFails call Memory t = Unit {0}
+EndFails call Memory t = ((t.failed ≡ 0) × (t.own ≡ [])) ⊎ ((bytes : List ℕ) × IsEnd call bytes t)
 EndFails call other t = ⊥
 
 abbrev pub EndOutcome : Call → Result (Vec ℕ) BootCause → Trace → Type 0

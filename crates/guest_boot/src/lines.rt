@@ -9,13 +9,13 @@ use crate::faults::{BootCause, BootFault};
 use crate::tables::{DiskTable, parts_on};
 use apk_verity::{ApkFault, open_apk};
 use guest_plan::{How, PlanLine};
-use host_traits::Host;
+use host_traits::{Host, Raw};
 use mg_base::Digest;
 use ro_file::{RoFault, RoFile, open_file};
 use sha_tree::Measure;
 use std::alloc::Global;
 use text_lines::Name;
-use verity_path::{Buffers, Device, Layout};
+use verity_path::{Device, Layout};
 
 /// What boot opened.
 #[derive(Drop)]
@@ -37,7 +37,8 @@ struct Boot {
 // The measure that an APK device has to have, if any.
 fn measure_in(how: &How) -> Option<&Measure>
     requires { IsMeasuredBy how.now }
-    ensures value { MatchOption result (measure_in how.now ≡ None) (λ m. measure_in how.now ≡ Some m.now) }
+    ensures value { MatchOption result (measure_in how.now ≡ None)
+        (λ m. measure_in how.now ≡ Some m.now) }
     ensures range { IfSome result (λ m. (2 ≤ m.now.blocks) × (m.now.blocks ≤ 1048576)) }
 {
     match how {
@@ -75,18 +76,19 @@ fn boot_apk<H: Host>(
     idsig: &Name,
     how: &How,
     boot: &mut Boot,
-    buf: &mut Buffers,
+    raw: &mut Raw,
 ) -> Result<(), BootCause>
     requires how { IsMeasuredBy how.now }
     requires items { AreItems boot.old.items.items }
-    ensures did { Did (IsForApk disk) 4 (H.told host.old) (H.told host.new) (ApkOutcome (state_of boot.old) disk apk.now idsig.now how.now (state_of boot.new) result) }
+    ensures did { Did (IsForApk disk) 4 (H.told host.old) (H.told host.new)
+        (ApkOutcome (state_of boot.old) disk apk.now idsig.now how.now (state_of boot.new) result) }
     ensures items { AreItems boot.new.items.items }
 {
-    let (first, second) = match parts_on(alloc, host, disk, apk, idsig, &mut boot.tables, buf) {
+    let (first, second) = match parts_on(alloc, host, disk, apk, idsig, &mut boot.tables, raw) {
         Ok(parts) => parts,
         Err(why) => return Err(why),
     };
-    let device = match open_apk(host, disk, first, second, measure_in(how), buf) {
+    let device = match open_apk(host, disk, first, second, measure_in(how), raw) {
         Ok(device) => device,
         Err(fault) => return Err(apk_cause(fault)),
     };
@@ -102,12 +104,13 @@ fn boot_file<H: Host>(
     file: u32,
     digest: &Digest,
     boot: &mut Boot,
-    buf: &mut Buffers,
+    raw: &mut Raw,
 ) -> Result<(), BootCause>
-    ensures did { Did (IsDescriptorCall file) 1 (H.told host.old) (H.told host.new) (FileOutcome (state_of boot.old) file digest.now (state_of boot.new) result) }
+    ensures did { Did (IsDescriptorCall file) 1 (H.told host.old) (H.told host.new)
+        (FileOutcome (state_of boot.old) file digest.now (state_of boot.new) result) }
     ensures items { boot.new.items ≡ boot.old.items }
 {
-    let opened = match open_file(host, file, digest, buf) {
+    let opened = match open_file(host, file, digest, raw) {
         Ok(opened) => opened,
         Err(fault) => return Err(file_cause(fault)),
     };
@@ -143,12 +146,13 @@ fn boot_line<H: Host>(
     host: &mut H,
     line: &PlanLine,
     boot: &mut Boot,
-    buf: &mut Buffers,
+    raw: &mut Raw,
 ) -> Result<(), BootCause>
     requires built { IsBuilt line.now }
     requires served { IsServed line.now }
     requires items { AreItems boot.old.items.items }
-    ensures did { Did (IsForLine line.now) (most_of_line line.now) (H.told host.old) (H.told host.new) (LineOutcome (state_of boot.old) line.now (state_of boot.new) result) }
+    ensures did { Did (IsForLine line.now) (most_of_line line.now) (H.told host.old)
+        (H.told host.new) (LineOutcome (state_of boot.old) line.now (state_of boot.new) result) }
     ensures items { AreItems boot.new.items.items }
 {
     match line {
@@ -158,12 +162,12 @@ fn boot_line<H: Host>(
             apk,
             idsig,
             how,
-        } => boot_apk(alloc, host, *disk, apk, idsig, how, boot, buf),
+        } => boot_apk(alloc, host, *disk, apk, idsig, how, boot, raw),
         PlanLine::File {
             name: _,
             file,
             digest,
-        } => boot_file(host, *file, digest, boot, buf),
+        } => boot_file(host, *file, digest, boot, raw),
         _ => unreachable!(),
     }
 }
@@ -176,13 +180,14 @@ pub fn open_lines<H: Host>(
     host: &mut H,
     lines: &[PlanLine],
     numbers: &[u64],
-    buf: &mut Buffers,
+    raw: &mut Raw,
 ) -> Result<Opened, BootFault>
     requires built { AreBuilt lines.now }
     requires served { AreServed lines.now }
     requires numbers { length numbers.now ≡ length lines.now }
     // The calls of the lines in their order, and what came of them.
-    ensures booted { Did (IsForLines lines.now) (most_of lines.now) (H.told host.old) (H.told host.new) (BootOutcome lines.now numbers.now result) }
+    ensures booted { Did (IsForLines lines.now) (most_of lines.now) (H.told host.old)
+        (H.told host.new) (BootOutcome lines.now numbers.now result) }
     // Each device can be read.
     ensures items { IfOk result (λ o. AreItems o.items.items) }
 {
@@ -192,7 +197,7 @@ pub fn open_lines<H: Host>(
         files: Vec::new(alloc),
     };
     for index in 0..lines.len() {
-        match boot_line(alloc, host, &lines[index], &mut boot, buf) {
+        match boot_line(alloc, host, &lines[index], &mut boot, raw) {
             Ok(()) => {}
             Err(why) => {
                 let line = numbers[index];

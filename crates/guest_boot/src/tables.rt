@@ -7,12 +7,11 @@ ghost use Rattle.guest_boot.specs.Finding.{IsCall, size_call, IsTableCall, SizeO
 
 use crate::faults::BootCause;
 use gpt::{GptFault, Table, read_gpt};
-use host_traits::{Host, HostError};
+use host_traits::{Host, HostError, Raw};
 use mg_base::Span;
 use std::alloc::Global;
 use std::marker::Model;
 use text_lines::Name;
-use verity_path::Buffers;
 
 /// The bytes of the 40 sectors at an end of a disk.
 const END: u64 = 20_480;
@@ -57,7 +56,8 @@ impl DiskTable {
 
 // How many sectors a disk has, where it may have a table.
 fn sectors_of<H: Host>(host: &mut H, disk: u32) -> Result<u64, BootCause>
-    ensures did { Did (IsCall (size_call disk)) 1 (H.told host.old) (H.told host.new) (SizeOutcome disk result) }
+    ensures did { Did (IsCall (size_call disk)) 1 (H.told host.old) (H.told host.new)
+        (SizeOutcome disk result) }
     ensures least { IfOk result (λ n. 80 ≤ n) }
     ensures most { IfOk result (λ n. n ≤ 1099511627776) }
 {
@@ -81,11 +81,12 @@ fn read_end<H: Host>(
     host: &mut H,
     disk: u32,
     sector: u64,
-    buf: &mut Buffers,
+    raw: &mut Raw,
 ) -> Result<Vec<u8>, BootCause>
-    ensures { Did (IsCall (BlockRead disk sector 40)) 1 (H.told host.old) (H.told host.new) (EndOutcome (BlockRead disk sector 40) result) }
+    ensures { Did (IsCall (BlockRead disk sector 40)) 1 (H.told host.old) (H.told host.new)
+        (EndOutcome (BlockRead disk sector 40) result) }
 {
-    match host.block_read(disk, sector, 40, &mut buf.raw) {
+    match host.block_read(disk, sector, 40, raw) {
         Ok(()) => {}
         Err(HostError::Failed) => {
             let faults = host.faults();
@@ -93,11 +94,11 @@ fn read_end<H: Host>(
         }
         Err(HostError::Memory) => return Err(BootCause::Memory),
     }
-    let got = buf.raw.len() as u64;
+    let got = raw.len() as u64;
     if got < END {
         return Err(BootCause::Short { asked: END, got });
     }
-    match Vec::from_slice(alloc, buf.raw.layout()) {
+    match Vec::from_slice(alloc, raw.layout()) {
         Ok(bytes) => Ok(bytes),
         Err(_) => Err(BootCause::Memory),
     }
@@ -118,19 +119,20 @@ fn read_table<H: Host>(
     alloc: Global,
     host: &mut H,
     disk: u32,
-    buf: &mut Buffers,
+    raw: &mut Raw,
 ) -> Result<DiskTable, BootCause>
-    ensures { Did (IsTableCall disk) 3 (H.told host.old) (H.told host.new) (TableOutcome disk result) }
+    ensures { Did (IsTableCall disk) 3 (H.told host.old) (H.told host.new)
+        (TableOutcome disk result) }
 {
     let sectors = match sectors_of(host, disk) {
         Ok(sectors) => sectors,
         Err(why) => return Err(why),
     };
-    let head = match read_end(alloc, host, disk, 0, buf) {
+    let head = match read_end(alloc, host, disk, 0, raw) {
         Ok(head) => head,
         Err(why) => return Err(why),
     };
-    let tail = match read_end(alloc, host, disk, sectors - 40, buf) {
+    let tail = match read_end(alloc, host, disk, sectors - 40, raw) {
         Ok(tail) => tail,
         Err(why) => return Err(why),
     };
@@ -143,7 +145,8 @@ fn read_table<H: Host>(
 // The table of a disk among those that were read.
 #[tactic(auto, unfolding(crate::specs::Finding::table_on))]
 fn known(tables: &[DiskTable], disk: u32) -> Option<&DiskTable>
-    ensures { MatchOption result (table_on disk tables.now ≡ None) (λ t. table_on disk tables.now ≡ Some t.now.table) }
+    ensures { MatchOption result (table_on disk tables.now ≡ None)
+        (λ t. table_on disk tables.now ≡ Some t.now.table) }
 {
     for table in tables {
         if table.is_on(disk) {
@@ -191,15 +194,16 @@ pub fn parts_on<H: Host>(
     apk: &Name,
     idsig: &Name,
     tables: &mut Vec<DiskTable>,
-    buf: &mut Buffers,
+    raw: &mut Raw,
 ) -> Result<(Span, Span), BootCause>
-    ensures did { Did (IsTableCall disk) 3 (H.told host.old) (H.told host.new) (PartsOutcome tables.old.items disk apk.now idsig.now tables.new.items result) }
+    ensures did { Did (IsTableCall disk) 3 (H.told host.old) (H.told host.new)
+        (PartsOutcome tables.old.items disk apk.now idsig.now tables.new.items result) }
     ensures spans { IfOk result AreSpans }
 {
     if let Some(table) = known(tables.as_slice(), disk) {
         return parts_in(alloc, table, apk, idsig);
     }
-    let table = match read_table(alloc, host, disk, buf) {
+    let table = match read_table(alloc, host, disk, raw) {
         Ok(table) => table,
         Err(why) => return Err(why),
     };

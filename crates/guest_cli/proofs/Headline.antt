@@ -3,7 +3,7 @@ use Rattle.std.proofs.Common.{◌≡◌, ◌+◌, ◌-◌, ◌^◌, min, ℕ, Li
 use Rattle.host_traits.specs.declared.calls.TapeItem.{TapeItem}
 use Rattle.host_traits.specs.Did.{Did, trace_of}
 use Rattle.host_traits.specs.Folders.{Files}
-use Rattle.host_traits.specs.Told.{Told, Talked, Made, heard_of}
+use Rattle.host_traits.specs.Told.{Told, Talked, Made, heard_of, failures_of}
 use Rattle.host_traits.proofs.Talking.{talked_on}
 use Rattle.host_tape.specs.Played.{Played, unplayed, tape_told}
 use Rattle.verity_path.specs.declared.device.Device.{Device}
@@ -20,12 +20,13 @@ use Rattle.guest_cli.specs.declared.boot.Machine.{Machine}
 use Rattle.guest_cli.specs.declared.session.SessionEnd.{SessionEnd}
 use Rattle.guest_cli.specs.declared.session.SessionEnd.TheVariants.{Read, Write, BadFrame, TooMuch as MuchEnd, Unbuilt as UnbuiltEnd}
 use Rattle.guest_cli.specs.declared.status.Status.{Status}
-use Rattle.guest_cli.specs.declared.status.Status.TheVariants.{BootFault, Memory}
-use Rattle.guest_cli.specs.Session.{Session, IsSession}
-use Rattle.guest_cli.specs.Outside.{Streams, Quiet, status_of}
+use Rattle.guest_cli.specs.declared.status.Form.TheVariants.{Command, Plan, Frame}
+use Rattle.guest_cli.specs.declared.status.Status.TheVariants.{BootFault, Done, Usage, PlanFault, FileFault, TapeFault, StoreFault, ReadFault, WriteFault, BadFrame as BadFrameStatus, TooMuch, Memory, Unbuilt}
+use Rattle.guest_cli.specs.Session.{Streams, IsSession}
+use Rattle.guest_cli.specs.Outside.{Quiet, status_of}
 use Rattle.guest_cli.specs.Booted.{BootedOutcome, BootsOver, Unbooted, boot_status, boot_status_by}
 use Rattle.guest_cli.specs.Replay.{Replayed, AllRead, Sat, Replays}
-use Rattle.guest_cli.specs.Loads.{IsReady, PlayOutcome}
+use Rattle.guest_cli.specs.Loads.{IsReady, InputsFail, PlayOutcome}
 
 pub replayed : (items : List Device) (entropy : List ℕ) (records : List TapeItem) (booted : List Made) (t : State) (mid finish : Told) (turns : List Turn) → Talked (tape_told (unplayed records)) mid booted
     → Runs items (record { entropy = entropy }) t mid finish turns → Replayed items entropy records booted mid finish turns
@@ -39,44 +40,44 @@ replayed items entropy records booted t mid finish turns boot runs =
       run = λ world w. runs_stand items world (moment (record { entropy = entropy }) mid (heard_of booted)) turns (moment t finish (heard_of booted ++ heard_of (calls_of turns))) w plain;
     }
 
-session_with : (P Q : List Turn → Type 0) → ((turns : List Turn) → P turns → Q turns) → (in_a in_b out_a out_b log_a log_b : Option (List ℕ)) (bytes rest : List ℕ) (turns : List Turn) → Session P in_a in_b out_a out_b log_a log_b bytes rest turns → Session Q in_a in_b out_a out_b log_a log_b bytes rest turns
-session_with P Q so in_a in_b out_a out_b log_a log_b bytes rest turns s = record { came = s.came; runs = so turns s.runs; written = s.written; logged = s.logged }
-
 -- the same with less known of what ran
-pub session_so : (P Q : List Turn → Type 0) → ((turns : List Turn) → P turns → Q turns) → (told : Told) (in_a in_b out_a out_b log_a log_b : Option (List ℕ)) (r : Result (Unit {0}) SessionEnd) → IsSession P told in_a in_b out_a out_b log_a log_b r → IsSession Q told in_a in_b out_a out_b log_a log_b r
-session_so P Q so told in_a in_b out_a out_b log_a log_b (Ok u) d = (d.0, d.1, session_with P Q so in_a in_b out_a out_b log_a log_b d.0 [] d.1 d.2, d.3)
-session_so P Q so told in_a in_b out_a out_b log_a log_b (Err Read) d = (d.0, d.1, d.2, session_with P Q so in_a in_b out_a out_b log_a log_b d.0 d.1 d.2 d.3, d.4)
-session_so P Q so told in_a in_b out_a out_b log_a log_b (Err (BadFrame at)) d = (d.0, d.1, d.2, session_with P Q so in_a in_b out_a out_b log_a log_b d.0 d.1 d.2 d.3, d.4, d.5)
-session_so P Q so told in_a in_b out_a out_b log_a log_b (Err MuchEnd) d = (d.0, d.1, d.2, session_with P Q so in_a in_b out_a out_b log_a log_b d.0 d.1 d.2 d.3, d.4)
-session_so P Q so told in_a in_b out_a out_b log_a log_b (Err (UnbuiltEnd at)) d = (d.0, d.1, d.2, session_with P Q so in_a in_b out_a out_b log_a log_b d.0 d.1 d.2 d.3, d.4, d.5)
-session_so P Q so told in_a in_b out_a out_b log_a log_b (Err Write) d = (
-  d.0,
-  d.1,
-  d.2,
-  d.3,
-  d.4,
-  d.5,
-  record { runs = so _ d.6.runs; out_mid = d.6.out_mid; written = d.6.written; log_mid = d.6.log_mid; logged = d.6.logged; part = d.6.part },
-)
+pub session_so : (P Q : List Turn → Type 0) → ((turns : List Turn) → P turns → Q turns) → (told : Told) (old new : Streams) (r : Result (Unit {0}) SessionEnd) → IsSession P told old new r → IsSession Q told old new r
+session_so P Q so told old new (Ok u) d = record { bytes = d.bytes; rest = d.rest; turns = d.turns; came = d.came; within = d.within; runs = so d.turns d.runs; written = d.written; logged = d.logged; why = d.why }
+session_so P Q so told old new (Err Read) d = record { bytes = d.bytes; rest = d.rest; turns = d.turns; came = d.came; within = d.within; runs = so d.turns d.runs; written = d.written; logged = d.logged; why = d.why }
+session_so P Q so told old new (Err (BadFrame at)) d = record { bytes = d.bytes; rest = d.rest; turns = d.turns; came = d.came; within = d.within; runs = so d.turns d.runs; written = d.written; logged = d.logged; why = d.why }
+session_so P Q so told old new (Err MuchEnd) d = record { bytes = d.bytes; rest = d.rest; turns = d.turns; came = d.came; within = d.within; runs = so d.turns d.runs; written = d.written; logged = d.logged; why = d.why }
+session_so P Q so told old new (Err (UnbuiltEnd at)) d = record { bytes = d.bytes; rest = d.rest; turns = d.turns; came = d.came; within = d.within; runs = so d.turns d.runs; written = d.written; logged = d.logged; why = d.why }
+session_so P Q so told old new (Err Write) d =
+    let ran = d.ran in record {
+      bytes = d.bytes;
+      rest = d.rest;
+      turns = d.turns;
+      last = d.last;
+      came = d.came;
+      within = d.within;
+      front = d.front;
+      ran = record { runs = so _ ran.runs; out_mid = ran.out_mid; written = ran.written; log_mid = ran.log_mid; logged = ran.logged; part = ran.part };
+    }
 
 -- the session over a tape, behind a boot over it
-pub tape_session : (items : List Device) (st : State) (entropy : List ℕ) (tape : Played) (booted : List Made) (t : State) (mid finish : Told) (in_a in_b out_a out_b log_a log_b : Option (List ℕ)) (r : Result (Unit {0}) SessionEnd) → st ≡ record { entropy = entropy } → tape ≡ unplayed tape.records
+pub tape_session : (items : List Device) (st : State) (entropy : List ℕ) (tape : Played) (booted : List Made) (t : State) (mid finish : Told) (old new : Streams) (r : Result (Unit {0}) SessionEnd) → st ≡ record { entropy = entropy } → tape ≡ unplayed tape.records
     → Talked (tape_told tape) mid booted
-    → IsSession (Runs items st t mid finish) finish in_a in_b out_a out_b log_a log_b r
-    → IsSession (Replayed items entropy tape.records booted mid finish) finish in_a in_b out_a out_b log_a log_b r
-tape_session items st entropy tape booted t mid finish in_a in_b out_a out_b log_a log_b r state fresh boot d =
+    → IsSession (Runs items st t mid finish) finish old new r
+    → IsSession (Replayed items entropy tape.records booted mid finish) finish old new r
+tape_session items st entropy tape booted t mid finish old new r state fresh boot d =
     session_so _ _ (λ turns runs. replayed items entropy tape.records booted t mid finish turns (subst (λ (p : Played). Talked (tape_told p) mid booted) fresh boot)
-    (subst (λ (s : State). Runs items s t mid finish turns) state runs)) finish in_a in_b out_a out_b log_a log_b r d
+    (subst (λ (s : State). Runs items s t mid finish turns) state runs)) finish old new r d
 
 -- ---- boot
 
 pub booted_over : (lines : List PlanLine) (numbers : List ℕ) (start mid : Told) (m : Machine) → (d : Did (IsForLines lines) (most_of lines) start mid (BootedOutcome lines numbers (Ok m))) → BootsOver lines start mid d.own m.engine.items
-booted_over lines numbers start mid m d = record { talked = d.talked; calls = d.calls; few = d.few; files = m.engine.files; opens = d.outcome }
+booted_over lines numbers start mid m d = record { talked = d.talked; calls = d.calls; few = d.few; answered = d.outcome.0; files = m.engine.files; opens = d.outcome.1 }
 
 unbooted_with : (lines : List PlanLine) (numbers : List ℕ) (start finish : Told) (fault : Fault) (why : BootCause) → fault.why ≡ why → (why ≡ cause.Memory → ⊥) → (d : Did (IsForLines lines) (most_of lines) start finish (BootedOutcome lines numbers (Err fault)))
-    → (fault.why ≡ cause.Memory) ⊎ IsFault lines numbers fault (trace_of (heard_of d.own) start finish) → Unbooted lines numbers start fault
-unbooted_with lines numbers start finish fault why is other d (inl e) = absurd (other (sym is ∙ e))
-unbooted_with lines numbers start finish fault why is other d (inr f) = record { finish = finish; own = d.own; talked = d.talked; calls = d.calls; few = d.few; is = f }
+    → ((fault.why ≡ cause.Memory) × (failures_of d.own ≡ 0) × (heard_of d.own ≡ [])) ⊎ IsFault lines numbers fault (trace_of (heard_of d.own) (failures_of d.own) start finish) → Unbooted lines numbers start fault
+unbooted_with lines numbers start finish fault why is other d (inl e) = absurd (other (sym is ∙ e.0))
+unbooted_with lines numbers start finish fault why is other d (inr f) =
+    record { finish = finish; own = d.own; talked = d.talked; calls = d.calls; few = d.few; stops = d.stops; is = f; other = λ e. other (sym is ∙ e) }
 
 unbooted : (lines : List PlanLine) (numbers : List ℕ) (start finish : Told) (fault : Fault) (why : BootCause) → fault.why ≡ why → (why ≡ cause.Memory → ⊥) → Did (IsForLines lines) (most_of lines) start finish (BootedOutcome lines numbers (Err fault)) → Unbooted lines numbers start fault
 unbooted lines numbers start finish fault why is other d = unbooted_with lines numbers start finish fault why is other d d.outcome
@@ -104,6 +105,24 @@ unplayed_by plan tape entropy fault old new status is quiet (inr f) = inr (inl (
 
 -- ---- a replay, by how it ended
 
+-- the files were not all loaded and read
+pub fails_replay : (files : Option Files) (plan tape entropy : List ℕ) (old new : Streams) (status : Status) → InputsFail files plan tape entropy status → Quiet old new → Replays files plan tape entropy old new status
+fails_replay files plan tape entropy old new (PlanFault line kind) w quiet = (w, quiet)
+fails_replay files plan tape entropy old new (FileFault name) w quiet = (w, quiet)
+fails_replay files plan tape entropy old new (TapeFault at) w quiet = (w.0, w.1, quiet)
+fails_replay files plan tape entropy old new TooMuch w quiet = inl (w, quiet)
+fails_replay files plan tape entropy old new Memory w quiet = quiet
+fails_replay files plan tape entropy old new (Unbuilt Plan at) w quiet = (w, quiet)
+fails_replay files plan tape entropy old new (Unbuilt Command at) w quiet = absurd w
+fails_replay files plan tape entropy old new (Unbuilt Frame at) w quiet = absurd w
+fails_replay files plan tape entropy old new Done w quiet = absurd w
+fails_replay files plan tape entropy old new Usage w quiet = absurd w
+fails_replay files plan tape entropy old new (StoreFault line kind) w quiet = absurd w
+fails_replay files plan tape entropy old new ReadFault w quiet = absurd w
+fails_replay files plan tape entropy old new WriteFault w quiet = absurd w
+fails_replay files plan tape entropy old new (BadFrameStatus at) w quiet = absurd w
+fails_replay files plan tape entropy old new (BootFault fault) w quiet = absurd w
+
 ends_as : (files : Option Files) (plan tape entropy : List ℕ) (old new : Streams) (r : Result (Unit {0}) SessionEnd) → Sat files plan tape entropy old new (status_of r) → Replays files plan tape entropy old new (status_of r)
 ends_as files plan tape entropy old new (Ok u) sat = sat
 ends_as files plan tape entropy old new (Err Read) sat = sat
@@ -116,10 +135,7 @@ module _ (files : Option Files) (plan tape entropy : List ℕ) (k : Known) (play
   all_read : IsReady files plan tape entropy k played bytes → AllRead files plan tape entropy
   all_read ready = record {
     planned = record { text = ready.text; there = ready.there; plan = k; is = ready.is; built = ready.built };
-    text = ready.tape_text;
-    there = ready.tape_there;
-    records = played.records;
-    is_tape = ready.is_tape;
+    taped = record { text = ready.tape_text; there = ready.tape_there; records = played.records; is = ready.is_tape };
     bytes = bytes;
     bytes_there = ready.entropy_there;
   }

@@ -23,11 +23,11 @@ use Rattle.guest_cli.specs.declared.session.SessionEnd.{SessionEnd}
 use Rattle.guest_cli.specs.declared.session.SessionEnd.TheVariants.{Read, Write, BadFrame, TooMuch as MuchEnd, Unbuilt as UnbuiltEnd}
 use Rattle.guest_cli.specs.declared.status.Status.{Status}
 use Rattle.guest_cli.specs.declared.status.Status.TheVariants.{BootFault, Done, Usage, PlanFault, FileFault, TapeFault, StoreFault, ReadFault, WriteFault, BadFrame as BadFrameStatus, TooMuch, Memory, Unbuilt}
-use Rattle.guest_cli.specs.Session.{IsSession}
+use Rattle.guest_cli.specs.Session.{Streams, IsSession}
 use Rattle.guest_boot.specs.declared.faults.BootFault.{BootFault as Fault}
 use Rattle.guest_boot.specs.Booting.{IsForLines, most_of}
 use Rattle.guest_cli.specs.Booted.{BootedOutcome, BootsOver, Unbooted, boot_status}
-use Rattle.guest_cli.specs.Outside.{Streams, Quiet, status_of, refused}
+use Rattle.guest_cli.specs.Outside.{Quiet, status_of, refused}
 use Rattle.guest_cli.specs.Serve.{before, Recorded, SatOver, Kept, Unkept, ServesList}
 use Rattle.guest_cli.specs.Loads.{IsStocked, IsServed, IsUnserved, SatOutcome, StoreOutcome, StoresCause}
 use Rattle.guest_cli.proofs.Headline.{session_so, boot_fails}
@@ -65,7 +65,7 @@ from_before m old same none unused_is = ap (λ (h : Mem). told_with (mem_told h)
 -- the session over a recorder before a host that was not called yet, behind a boot over it
 pub sat_over : (items : List Device) (st : State) (entropy : List ℕ) (m : Mem) (booted : List Made) (t : State) (old mid r : Recorder Mem) (old_s new_s : Streams) (e : Result (Unit {0}) SessionEnd) (plan : Known) → st ≡ record { entropy = entropy }
     → old.host ≡ m → old.kept ≡ nothing → m.count ≡ unused → BootsOver plan.lines (told_with (mem_told old.host) old.kept) (told_with (mem_told mid.host) mid.kept) booted items
-    → IsSession (Runs items st t (told_with (mem_told mid.host) mid.kept) (told_with (mem_told r.host) r.kept)) (told_with (mem_told r.host) r.kept) old_s.input new_s.input old_s.out new_s.out old_s.log new_s.log e
+    → IsSession (Runs items st t (told_with (mem_told mid.host) mid.kept) (told_with (mem_told r.host) r.kept)) (told_with (mem_told r.host) r.kept) old_s new_s e
     → IsServed plan (mem_held m) entropy old_s new_s e r (told_with (mem_told r.host) r.kept)
 sat_over items st entropy m booted t old mid r old_s new_s e plan state same none unused_is boots d =
     let start : Told = told_with (mem_told mid.host) mid.kept in
@@ -76,7 +76,7 @@ sat_over items st entropy m booted t old mid r old_s new_s e plan state same non
       booted = booted;
       mid = start;
       boots = from;
-      session = session_so _ _ (λ turns runs. recorded items entropy m booted t mid r turns from.talked (subst (λ (s : State). Runs items s t start finish turns) state runs)) finish old_s.input new_s.input old_s.out new_s.out old_s.log new_s.log e d;
+      session = session_so _ _ (λ turns runs. recorded items entropy m booted t mid r turns from.talked (subst (λ (s : State). Runs items s t start finish turns) state runs)) finish old_s new_s e d;
       held_is = refl;
     }
 

@@ -24,12 +24,12 @@ abbrev pub read_frame : List ℕ → Framed
 read_frame payload = record { channel = 1; payload = payload }
 
 pub absent_step : (items : List Device) (state : State) (a : Told) (payload : List ℕ) → length items ≤ (item_read payload).item → Stepped items state state a a (read_frame payload) (sent_code 1 2) None
-absent_step items state a payload absent = stepped items state state a a _ _ _ (λ call. ⊥) 0 (λ t. t.own ≡ []) (did_none _ 0 a _ refl) (λ call none. absurd none) (omega arith)
-    (λ heard own none. (refl, no_item absent none))
+absent_step items state a payload absent = stepped items state state a a _ _ _ (λ call. ⊥) 0 (λ t. (t.failed ≡ 0) × (t.own ≡ [])) (did_none _ 0 a _ (refl, refl)) (λ call none. absurd none) (omega arith)
+    (λ heard own failed none. (refl, no_item absent none.0 none.1))
 
 pub large_step : (items : List Device) (state : State) (a : Told) (payload : List ℕ) → (item_read payload).item < length items → 131072 < (item_read payload).size → Stepped items state state a a (read_frame payload) (sent_code 1 22) None
-large_step items state a payload there large = stepped items state state a a _ _ _ (λ call. ⊥) 0 (λ t. t.own ≡ []) (did_none _ 0 a _ refl) (λ call none. absurd none) (omega arith)
-    (λ heard own none. (refl, too_large there large none))
+large_step items state a payload there large = stepped items state state a a _ _ _ (λ call. ⊥) 0 (λ t. (t.failed ≡ 0) × (t.own ≡ [])) (did_none _ 0 a _ (refl, refl)) (λ call none. absurd none) (omega arith)
+    (λ heard own failed none. (refl, too_large there large none.0 none.1))
 
 module _ (items : List Device) (state : State) (a b : Told) (payload : List ℕ) (it : Device) (there : (item_read payload).item < length items) (at : slice_get items (item_read payload).item ≡ Some it) (fits : (item_read payload).size ≤ 131072) where
   few : most_answers it.measure (size_of it) (item_read payload).offset (item_read payload).size ≤ most_for items (request_of (read_frame payload))
@@ -40,12 +40,12 @@ module _ (items : List Device) (state : State) (a b : Told) (payload : List ℕ)
 
   pub read_step : (bytes : List ℕ) (r : Result (Unit {0}) WalkFault) → Work bytes r → Stepped items state state a b (read_frame payload) (sent_of (answer_to_read r).reply bytes) (answer_to_read r).cause
   read_step bytes (Ok u) d = stepped items state state a b (read_frame payload) _ _ _ _ _ d (λ call for. (it, at, for)) few
-      (λ heard own cut. (refl, served it bytes at fits (cut_wider heard own it.measure _ _ bytes cut)))
+      (λ heard own failed cut. (refl, served it bytes at fits cut.0 (cut_wider heard own it.measure _ _ bytes cut.1)))
   read_step bytes (Err (fault.Mismatch x)) d = stepped items state state a b (read_frame payload) _ _ _ _ _ d (λ call for. (it, at, for)) few
-      (λ heard own blame. (refl, blamed it (cause.Mismatch x) at fits (blame_wider it.layout it.measure (IsForItem it (item_read payload)) a b heard own (fault.Mismatch x) blame)))
+      (λ heard own failed blame. (refl, blamed it (cause.Mismatch x) at fits (blame_wider it.layout it.measure (IsForItem it (item_read payload)) a b heard own failed (fault.Mismatch x) blame)))
   read_step bytes (Err (fault.Short asked got)) d = stepped items state state a b (read_frame payload) _ _ _ _ _ d (λ call for. (it, at, for)) few
-      (λ heard own blame. (refl, blamed it (cause.Short asked got) at fits (blame_wider it.layout it.measure (IsForItem it (item_read payload)) a b heard own (fault.Short asked got) blame)))
+      (λ heard own failed blame. (refl, blamed it (cause.Short asked got) at fits (blame_wider it.layout it.measure (IsForItem it (item_read payload)) a b heard own failed (fault.Short asked got) blame)))
   read_step bytes (Err (fault.Failed faults)) d = stepped items state state a b (read_frame payload) _ _ _ _ _ d (λ call for. (it, at, for)) few
-      (λ heard own blame. (refl, blamed it (cause.Failed faults) at fits (blame_wider it.layout it.measure (IsForItem it (item_read payload)) a b heard own (fault.Failed faults) blame)))
+      (λ heard own failed blame. (refl, blamed it (cause.Failed faults) at fits (blame_wider it.layout it.measure (IsForItem it (item_read payload)) a b heard own failed (fault.Failed faults) blame)))
   read_step bytes (Err fault.Memory) d = stepped items state state a b (read_frame payload) _ _ _ _ _ d (λ call for. (it, at, for)) few
-      (λ heard own none. (refl, no_memory there fits none))
+      (λ heard own failed none. (refl, no_memory there fits (record { failed = none.failed; scarce = none.scarce })))

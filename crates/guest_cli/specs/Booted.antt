@@ -1,7 +1,7 @@
 -- What boot makes of a plan's lines over a host, and why it came to no end.
-use Rattle.std.specs.Prelude.{◌≡◌, ◌≤◌, ◌⊎◌, ℕ, List, length, Result, Ok, Err}
-use Rattle.host_traits.specs.Did.{Trace, Each, reads, trace_of}
-use Rattle.host_traits.specs.Told.{Told, Talked, Made, Exchanges, heard_of}
+use Rattle.std.specs.Prelude.{◌≡◌, ◌≢◌, ◌≤◌, ◌⊎◌, ℕ, List, [], length, Result, Ok, Err}
+use Rattle.host_traits.specs.Did.{Trace, Each, reads, StopsAtFailure, trace_of}
+use Rattle.host_traits.specs.Told.{Told, Talked, Made, Exchanges, heard_of, failures_of}
 use Rattle.verity_path.specs.declared.device.Device.{Device}
 use Rattle.ro_file.specs.Files.{MeasuredFile}
 use Rattle.guest_plan.specs.declared.plan.PlanLine.{PlanLine}
@@ -19,27 +19,31 @@ pub record Opens (lines : List PlanLine) (own : Exchanges) (items : List Device)
   pub tables : List TableOn
   pub boots : Boots nothing lines own (record { tables = tables; items = items; files = files })
 
--- what came of boot
+-- what came of boot: where it passed, no call failed; where it has no room to begin with, it calls nothing
 abbrev pub BootedOutcome : List PlanLine → List ℕ → Result Machine Fault → Trace → Type 0
-BootedOutcome lines numbers (Ok m) t = Opens lines t.own m.engine.items m.engine.files
-BootedOutcome lines numbers (Err fault) t = (fault.why ≡ cause.Memory) ⊎ IsFault lines numbers fault t
+BootedOutcome lines numbers (Ok m) t = (t.failed ≡ 0) × Opens lines t.own m.engine.items m.engine.files
+BootedOutcome lines numbers (Err fault) t = ((fault.why ≡ cause.Memory) × (t.failed ≡ 0) × (t.own ≡ [])) ⊎ IsFault lines numbers fault t
 
--- the lines were opened over a host: what it told before and after, and these calls between, failed ones too, and no other
+-- the lines were opened over a host: what it told before and after, and these calls between, and no other, none of which failed
 pub record BootsOver (lines : List PlanLine) (start mid : Told) (booted : List Made) (items : List Device) : Type 0 where
   pub talked : Talked start mid booted
   pub calls : Each (reads (IsForLines lines)) booted
   pub few : length booted ≤ most_of lines
+  pub answered : failures_of booted ≡ 0
   pub files : List MeasuredFile
   pub opens : Opens lines (heard_of booted) items files
 
--- a line was not opened, by what was heard for it: these calls were made, failed ones too, and no other
+-- a line was not opened, by what was heard for it: these calls were made, failed ones too, and no other, and none after one that
+-- failed; want of memory is another status
 pub record Unbooted (lines : List PlanLine) (numbers : List ℕ) (start : Told) (fault : Fault) : Type 0 where
   pub finish : Told
   pub own : List Made
   pub talked : Talked start finish own
   pub calls : Each (reads (IsForLines lines)) own
   pub few : length own ≤ most_of lines
-  pub is : IsFault lines numbers fault (trace_of (heard_of own) start finish)
+  pub stops : StopsAtFailure own
+  pub is : IsFault lines numbers fault (trace_of (heard_of own) (failures_of own) start finish)
+  pub other : fault.why ≢ cause.Memory
 
 -- a fault of boot as a status
 abbrev pub boot_status_by : Fault → BootCause → Status

@@ -7,7 +7,7 @@ use Rattle.host_traits.specs.Told.{Rose}
 use Rattle.guest_cli.specs.declared.status.Form.TheVariants.{Command}
 use Rattle.guest_cli.specs.declared.status.Status.{Status}
 use Rattle.guest_cli.specs.declared.status.Status.TheVariants.{Usage, FileFault, WriteFault, Unbuilt}
-use Rattle.guest_cli.specs.Outside.{Streams}
+use Rattle.guest_cli.specs.Session.{Streams}
 use Rattle.guest_cli.specs.Replay.{Replays}
 use Rattle.guest_cli.specs.Serve.{ServesList, Untouched}
 use Rattle.guest_cli.specs.Statuses.{end_line}

@@ -1,5 +1,5 @@
 -- The parts of a run between the words and the session: what was loaded and read, why it wasn't, and what was stored.
-use Rattle.std.specs.Prelude.{◌≡◌, ◌≤◌, ℕ, List, ◌∷◌, Option, Some, None, Result, Ok, Err, ◌⊎◌, string_bytes}
+use Rattle.std.specs.Prelude.{◌≡◌, ◌≤◌, ◌+◌, ℕ, List, ◌∷◌, length, Option, Some, None, Result, Ok, Err, ◌⊎◌, string_bytes}
 use Rattle.host_traits.specs.declared.calls.TapeItem.{TapeItem}
 use Rattle.host_traits.specs.Folders.{Files, Errand, load_of, store_of}
 use Rattle.host_traits.specs.Held.{Held}
@@ -17,7 +17,7 @@ use Rattle.guest_plan.specs.Plans.{Known, known, plan_of}
 use Rattle.guest_plan.specs.Spelling.{IsPlan}
 use Rattle.guest_plan.specs.Stores.{IsStore, store_of as store_list_of}
 use Rattle.guest_files.specs.declared.load.Refusal.TheVariants as refusal
-use Rattle.guest_files.specs.Files.{IsThere, Passes}
+use Rattle.guest_files.specs.Files.{Passes}
 use Rattle.guest_files.specs.Keeping.{AreStored, StoringStops, kept_of}
 use Rattle.guest_cli.specs.declared.session.SessionEnd.{SessionEnd}
 use Rattle.guest_cli.specs.declared.status.Form.TheVariants.{Plan as PlanForm}
@@ -25,8 +25,8 @@ use Rattle.guest_cli.specs.declared.status.Status.{Status}
 use Rattle.guest_cli.specs.declared.status.Status.TheVariants.{Done, BootFault, PlanFault, FileFault, TapeFault, StoreFault, TooMuch, Memory, Unbuilt}
 use Rattle.guest_cli.specs.Booted.{BootsOver, Unbooted}
 use Rattle.guest_cli.specs.Planned.{first_unbuilt}
-use Rattle.guest_cli.specs.Session.{IsSession}
-use Rattle.guest_cli.specs.Outside.{PlanRead, PlanBroken, PlanUnbuilt, Streams, Quiet, status_of}
+use Rattle.guest_cli.specs.Session.{Streams, IsSession}
+use Rattle.guest_cli.specs.Outside.{IsLoadedBehind, PlanRead, PlanBroken, PlanUnbuilt, Quiet, status_of}
 use Rattle.guest_cli.specs.Replay.{IsNext, PassesLimit, TapeBroken, Replayed}
 use Rattle.guest_cli.specs.Serve.{before, HostMade, IsNextServed, PassesServed, Recorded, StoreBroken}
 
@@ -78,21 +78,21 @@ Listed text (Err other) = ⊥
 -- the three files of a replay were loaded and read
 pub record IsReady (files : Option Files) (plan_name tape_name entropy_name : List ℕ) (plan : Known) (tape : Played) (entropy : List ℕ) : Type 0 where
   pub text : List ℕ
-  pub there : IsThere files plan_name text
+  pub there : IsLoadedBehind 0 files plan_name text
   pub is : plan_of text ≡ Ok plan
   pub built : first_unbuilt plan ≡ None
   pub grammar : IsPlan text plan
   pub tape_text : List ℕ
-  pub tape_there : IsThere files tape_name tape_text
+  pub tape_there : IsLoadedBehind (length text) files tape_name tape_text
   pub is_tape : IsTape tape_text tape.records
   pub fresh : tape ≡ unplayed tape.records
-  pub entropy_there : IsThere files entropy_name entropy
+  pub entropy_there : IsLoadedBehind (length text + length tape_text) files entropy_name entropy
 
 -- why they were not
 abbrev pub InputsFail : Option Files → List ℕ → List ℕ → List ℕ → Status → Type 0
 InputsFail files plan tape entropy (PlanFault line kind) = PlanBroken files plan line kind
 InputsFail files plan tape entropy (FileFault name) = IsNext files plan tape entropy (string_bytes name)
-InputsFail files plan tape entropy (TapeFault at) = PlanRead files plan × TapeBroken files tape at
+InputsFail files plan tape entropy (TapeFault at) = (p : PlanRead files plan) × TapeBroken files tape (length p.text) at
 InputsFail files plan tape entropy TooMuch = PassesLimit files plan tape entropy
 InputsFail files plan tape entropy Memory = Unit {0}
 InputsFail files plan tape entropy (Unbuilt PlanForm at) = PlanUnbuilt files plan at
@@ -107,7 +107,7 @@ pub record IsPlayed (plan : Known) (tape : Played) (entropy : List ℕ) (old new
   pub finish : Told
   pub ended : Result (Unit {0}) SessionEnd
   pub status_is : status ≡ status_of ended
-  pub session : IsSession (Replayed items entropy tape.records booted mid finish) finish old.input new.input old.out new.out old.log new.log ended
+  pub session : IsSession (Replayed items entropy tape.records booted mid finish) finish old new ended
 
 -- a line was not opened
 pub record IsUnplayed (plan : Known) (tape : Played) (old new : Streams) (status : Status) : Type 0 where
@@ -128,7 +128,7 @@ pub record IsStocked (files : Option Files) (plan_name store_name entropy_name :
   pub grammar : IsPlan made.planned.text plan
   pub lines_are : made.listed.lines ≡ lines
   pub held_is : made.stock.held ≡ held
-  pub entropy_there : IsThere files entropy_name entropy
+  pub entropy_there : IsLoadedBehind made.stock.loaded files entropy_name entropy
 
 -- why not
 abbrev pub ServedFails : Option Files → List ℕ → List ℕ → List ℕ → Status → Type 0
@@ -146,7 +146,7 @@ pub record IsServed (plan : Known) (held : Held) (entropy : List ℕ) (old new :
   pub booted : List Made
   pub mid : Told
   pub boots : BootsOver plan.lines (before held) mid booted items
-  pub session : IsSession (Recorded items entropy booted mid r.kept.calls r.kept.items finish) finish old.input new.input old.out new.out old.log new.log ended
+  pub session : IsSession (Recorded items entropy booted mid r.kept.calls r.kept.items finish) finish old new ended
   pub held_is : finish.held ≡ Some (mem_held r.host)
 
 -- a line was not opened

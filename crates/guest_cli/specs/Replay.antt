@@ -13,10 +13,10 @@ use Rattle.guest_cli.specs.declared.session.SessionEnd.{SessionEnd}
 use Rattle.guest_cli.specs.declared.status.Form.TheVariants.{Command, Plan}
 use Rattle.guest_cli.specs.declared.status.Status.{Status}
 use Rattle.guest_cli.specs.declared.status.Status.TheVariants.{Usage, BootFault, PlanFault, FileFault, TapeFault, StoreFault, TooMuch, Memory, Unbuilt}
-use Rattle.guest_files.specs.Files.{IsThere, Passes}
+use Rattle.guest_files.specs.Files.{Passes}
 use Rattle.guest_cli.specs.Booted.{BootsOver, Unbooted}
-use Rattle.guest_cli.specs.Session.{IsSession}
-use Rattle.guest_cli.specs.Outside.{Streams, Quiet, PlanRead, PlanBroken, PlanUnbuilt, status_of}
+use Rattle.guest_cli.specs.Session.{Streams, IsSession}
+use Rattle.guest_cli.specs.Outside.{IsLoadedBehind, Quiet, PlanRead, PlanBroken, PlanUnbuilt, status_of}
 
 -- The turns of a replay, behind a boot that made these calls, after which the tape told `mid`; after the turns it tells `finish`.
 -- The turns' calls are all that were made from there, failed ones too. What came of each call, boot's before the turns', is what the
@@ -30,33 +30,33 @@ pub record Replayed (items : List Device) (entropy : List ℕ) (records : List T
   pub run : (world : World) → IsWorld items world (heard_of booted ++ heard_of (calls_of turns))
       → Run items world (moment (record { entropy = entropy }) mid (heard_of booted)) turns (moment state finish (heard_of booted ++ heard_of (calls_of turns)))
 
--- the tape was read
-pub record TapeRead (files : Option Files) (name : List ℕ) : Type 0 where
+-- the tape was read, behind so many bytes of other files
+pub record TapeRead (files : Option Files) (name : List ℕ) (before : ℕ) : Type 0 where
   pub text : List ℕ
-  pub there : IsThere files name text
+  pub there : IsLoadedBehind before files name text
   pub records : List TapeItem
   pub is : IsTape text records
 
 -- the file at which the folder failed: each is loaded once those before it were read
 abbrev pub IsNext : Option Files → List ℕ → List ℕ → List ℕ → List ℕ → Type 0
-IsNext files plan tape entropy name = (name ≡ plan) ⊎ ((name ≡ tape) × PlanRead files plan) ⊎ ((name ≡ entropy) × PlanRead files plan × TapeRead files tape)
+IsNext files plan tape entropy name =
+    (name ≡ plan)
+    ⊎ ((name ≡ tape) × PlanRead files plan)
+    ⊎ ((name ≡ entropy) × (p : PlanRead files plan) × TapeRead files tape (length p.text))
 
 -- the file that passed a limit, likewise
 abbrev pub PassesLimit : Option Files → List ℕ → List ℕ → List ℕ → Type 0
 PassesLimit files plan tape entropy =
     Passes files plan 0
     ⊎ ((p : PlanRead files plan) × Passes files tape (length p.text))
-    ⊎ ((p : PlanRead files plan) × (t : TapeRead files tape) × Passes files entropy (length p.text + length t.text))
+    ⊎ ((p : PlanRead files plan) × (t : TapeRead files tape (length p.text)) × Passes files entropy (length p.text + length t.text))
 
 -- plan, tape and entropy were read
 pub record AllRead (files : Option Files) (plan tape entropy : List ℕ) : Type 0 where
   pub planned : PlanRead files plan
-  pub text : List ℕ
-  pub there : IsThere files tape text
-  pub records : List TapeItem
-  pub is_tape : IsTape text records
+  pub taped : TapeRead files tape (length planned.text)
   pub bytes : List ℕ
-  pub bytes_there : IsThere files entropy bytes
+  pub bytes_there : IsLoadedBehind (length planned.text + length taped.text) files entropy bytes
 
 -- the lines of the plan were opened over the tape, and the session ended with this status
 pub record Sat (files : Option Files) (plan tape entropy : List ℕ) (old new : Streams) (status : Status) : Type 0 where
@@ -64,21 +64,21 @@ pub record Sat (files : Option Files) (plan tape entropy : List ℕ) (old new : 
   pub items : List Device
   pub booted : List Made
   pub mid : Told
-  pub boots : BootsOver read.planned.plan.lines (tape_told (unplayed read.records)) mid booted items
+  pub boots : BootsOver read.planned.plan.lines (tape_told (unplayed read.taped.records)) mid booted items
   pub finish : Told
   pub ended : Result (Unit {0}) SessionEnd
   pub status_is : status ≡ status_of ended
-  pub session : IsSession (Replayed items read.bytes read.records booted mid finish) finish old.input new.input old.out new.out old.log new.log ended
+  pub session : IsSession (Replayed items read.bytes read.taped.records booted mid finish) finish old new ended
 
 -- a line of the plan was not opened over the tape
 pub record NotBooted (files : Option Files) (plan tape entropy : List ℕ) (fault : Fault) : Type 0 where
   pub read : AllRead files plan tape entropy
-  pub fails : Unbooted read.planned.plan.lines read.planned.plan.numbers (tape_told (unplayed read.records)) fault
+  pub fails : Unbooted read.planned.plan.lines read.planned.plan.numbers (tape_told (unplayed read.taped.records)) fault
 
 -- the tape's bytes begin no whole record from this place on
-pub record TapeBroken (files : Option Files) (name : List ℕ) (at : ℕ) : Type 0 where
+pub record TapeBroken (files : Option Files) (name : List ℕ) (before at : ℕ) : Type 0 where
   pub text : List ℕ
-  pub there : IsThere files name text
+  pub there : IsLoadedBehind before files name text
   pub breaks : Breaks text at
 
 -- what each status of a replay says
@@ -87,7 +87,7 @@ Replays files plan tape entropy old new Usage = ⊥
 Replays files plan tape entropy old new (PlanFault line kind) = PlanBroken files plan line kind × Quiet old new
 Replays files plan tape entropy old new (StoreFault line kind) = ⊥
 Replays files plan tape entropy old new (FileFault name) = IsNext files plan tape entropy (string_bytes name) × Quiet old new
-Replays files plan tape entropy old new (TapeFault at) = PlanRead files plan × TapeBroken files tape at × Quiet old new
+Replays files plan tape entropy old new (TapeFault at) = (p : PlanRead files plan) × TapeBroken files tape (length p.text) at × Quiet old new
 Replays files plan tape entropy old new (BootFault fault) = NotBooted files plan tape entropy fault × Quiet old new
 Replays files plan tape entropy old new TooMuch = (PassesLimit files plan tape entropy × Quiet old new) ⊎ Sat files plan tape entropy old new TooMuch
 Replays files plan tape entropy old new Memory = Quiet old new

@@ -14,7 +14,7 @@ use Rattle.guest_plan.specs.declared.store.StoreLine.{StoreLine}
 use Rattle.guest_plan.specs.Stores.{store_of as store_list_of}
 use Rattle.guest_files.specs.declared.load.Refusal.{Refusal}
 use Rattle.guest_files.specs.declared.load.Refusal.TheVariants as refusal
-use Rattle.guest_files.specs.Files.{IsThere, Passes}
+use Rattle.guest_files.specs.Files.{Passes}
 use Rattle.guest_files.specs.Stocking.{Stock, Stocked, StockFails, unstocked}
 use Rattle.guest_files.specs.Keeping.{Parcel, AreStored, StoringStops, kept_of}
 use Rattle.guest_boot.specs.declared.faults.BootFault.{BootFault as Fault}
@@ -25,8 +25,8 @@ use Rattle.guest_cli.specs.declared.status.Form.TheVariants.{Command, Plan}
 use Rattle.guest_cli.specs.declared.status.Status.{Status}
 use Rattle.guest_cli.specs.declared.status.Status.TheVariants.{BootFault, Done, Usage, PlanFault, FileFault, TapeFault, StoreFault, TooMuch, Memory, Unbuilt}
 use Rattle.guest_cli.specs.Booted.{BootsOver, Unbooted}
-use Rattle.guest_cli.specs.Session.{IsSession}
-use Rattle.guest_cli.specs.Outside.{Streams, Quiet, PlanRead, PlanBroken, PlanUnbuilt, status_of}
+use Rattle.guest_cli.specs.Session.{Streams, IsSession}
+use Rattle.guest_cli.specs.Outside.{IsLoadedBehind, Quiet, PlanRead, PlanBroken, PlanUnbuilt, status_of}
 
 -- what a recorder before an honest host tells that holds this, before the first call
 abbrev pub before : Held → Told
@@ -45,38 +45,39 @@ pub record Recorded (items : List Device) (entropy : List ℕ) (booted : List Ma
   pub run : (world : World) → IsWorld items world (heard_of booted ++ heard_of (calls_of turns))
       → Run items world (moment (record { entropy = entropy }) mid (heard_of booted)) turns (moment state finish (heard_of booted ++ heard_of (calls_of turns)))
 
--- the store list was read
-pub record ListRead (files : Option Files) (name : List ℕ) : Type 0 where
+-- the store list was read, behind so many bytes of other files
+pub record ListRead (files : Option Files) (name : List ℕ) (before : ℕ) : Type 0 where
   pub text : List ℕ
-  pub there : IsThere files name text
+  pub there : IsLoadedBehind before files name text
   pub lines : List StoreLine
   pub is : store_list_of text ≡ Ok lines
 
 -- how many bytes were loaded before the store's own files
-abbrev pub loaded_with : {files : Option Files} {plan store : List ℕ} → PlanRead files plan → ListRead files store → ℕ
+abbrev pub loaded_with : {files : Option Files} {plan store : List ℕ} {before : ℕ} → PlanRead files plan → ListRead files store before → ℕ
 loaded_with p l = length p.text + length l.text
 
 -- each line of the store list was carried out
 pub record HostMade (files : Option Files) (plan store : List ℕ) : Type 0 where
   pub planned : PlanRead files plan
-  pub listed : ListRead files store
+  pub listed : ListRead files store (length planned.text)
   pub stock : Stock
   pub stocked : Stocked files listed.lines (unstocked (loaded_with planned listed)) stock
 
 -- a line of it wasn't
 pub record HostUnmade (files : Option Files) (plan store : List ℕ) (why : Refusal) : Type 0 where
   pub planned : PlanRead files plan
-  pub listed : ListRead files store
+  pub listed : ListRead files store (length planned.text)
   pub fails : StockFails files listed.lines (unstocked (loaded_with planned listed)) why
 
 -- a line of the store list breaks a rule, and is the first to: the text is no store list, or a file of its line is of no use
-pub record ListBroken (files : Option Files) (name : List ℕ) (line : ℕ) (kind : PlanKind) : Type 0 where
+pub record ListBroken (files : Option Files) (name : List ℕ) (before line : ℕ) (kind : PlanKind) : Type 0 where
   pub text : List ℕ
-  pub there : IsThere files name text
+  pub there : IsLoadedBehind before files name text
   pub is : store_list_of text ≡ Err (line, kind)
 
 abbrev pub StoreBroken : Option Files → List ℕ → List ℕ → ℕ → PlanKind → Type 0
-StoreBroken files plan store line kind = (PlanRead files plan × ListBroken files store line kind) ⊎ HostUnmade files plan store (refusal.Line line kind)
+StoreBroken files plan store line kind =
+    ((p : PlanRead files plan) × ListBroken files store (length p.text) line kind) ⊎ HostUnmade files plan store (refusal.Line line kind)
 
 -- the file at which the folder failed: each is loaded once those before it were read
 abbrev pub IsNextServed : Option Files → List ℕ → List ℕ → List ℕ → List ℕ → Type 0
@@ -99,7 +100,7 @@ PassesServed files plan store entropy =
 pub record SatOver (files : Option Files) (plan store entropy : List ℕ) (old new : Streams) (ended : Result (Unit {0}) SessionEnd) : Type 0 where
   pub made : HostMade files plan store
   pub bytes : List ℕ
-  pub bytes_there : IsThere files entropy bytes
+  pub bytes_there : IsLoadedBehind made.stock.loaded files entropy bytes
   pub items : List Device
   pub booted : List Made
   pub mid : Told
@@ -107,13 +108,13 @@ pub record SatOver (files : Option Files) (plan store entropy : List ℕ) (old n
   pub calls : List Call
   pub records : List TapeItem
   pub finish : Told
-  pub session : IsSession (Recorded items bytes booted mid calls records finish) finish old.input new.input old.out new.out old.log new.log ended
+  pub session : IsSession (Recorded items bytes booted mid calls records finish) finish old new ended
 
 -- a line of the plan was not opened over the host
 pub record UnbootedOver (files : Option Files) (plan store entropy : List ℕ) (fault : Fault) : Type 0 where
   pub made : HostMade files plan store
   pub bytes : List ℕ
-  pub bytes_there : IsThere files entropy bytes
+  pub bytes_there : IsLoadedBehind made.stock.loaded files entropy bytes
   pub fails : Unbooted made.planned.plan.lines made.planned.plan.numbers (before made.stock.held) fault
 
 -- what is stored after the session: the tape of all calls, a record for each, and then what the list's lines keep of what is held

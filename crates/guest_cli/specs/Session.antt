@@ -1,10 +1,10 @@
 -- How a session ends, and what it has done.
-use Rattle.std.specs.Prelude.{◌≡◌, ◌≢◌, ℕ, ◌^◌, ◌+◌, ◌<◌, ◌≤◌, List, [], ◌∷◌, ◌++◌, length, take, Option, Some, Result, Ok, Err, ◌⊎◌}
+use Rattle.std.specs.Prelude.{◌≡◌, ◌≢◌, ℕ, ◌^◌, ◌+◌, ◌-◌, ◌<◌, ◌≤◌, List, [], ◌∷◌, ◌++◌, length, take, Option, Some, Result, Ok, Err, ◌⊎◌}
 use Rattle.std.specs.Io.KnownBytes.{Appends, IsAtEnd}
 use Rattle.host_traits.specs.Streams.{SomePrefix}
 use Rattle.host_traits.specs.Told.{Told, Exchanges, heard_size}
-use Rattle.session_frames.specs.Frames.{Held, Fronts, Splits, IsCutOff, BeginsNone, bytes_of}
-use Rattle.session_frames.specs.Session.{Went, WentOver, Came, NoFrameIn}
+use Rattle.session_frames.specs.Frames.{Held, Fronts, IsCutOff, BeginsNone, bytes_of}
+use Rattle.session_frames.specs.Session.{Went, WentOver, Came}
 use Rattle.session_frames.specs.Replies.{reply_frame}
 use Rattle.verity_path.specs.declared.device.Device.{Device}
 use Rattle.guest_rules.specs.Machine.{State, Turn}
@@ -13,6 +13,12 @@ use Rattle.guest_cli.specs.declared.session.SessionEnd.{SessionEnd}
 use Rattle.guest_cli.specs.declared.session.SessionEnd.TheVariants.{Read, Write, BadFrame, TooMuch, Unbuilt}
 use Rattle.guest_cli.specs.declared.session.Stop.{Stop}
 use Rattle.guest_cli.specs.declared.session.Stop.TheVariants as stop
+
+-- the streams of a run: what the source has left, and what the two sinks hold
+pub record Streams : Type 0 where
+  pub input : Option (List ℕ)
+  pub out : Option (List ℕ)
+  pub log : Option (List ℕ)
 
 -- how many bytes the frames of turns have
 abbrev pub turns_size : List Turn → ℕ
@@ -25,6 +31,10 @@ limit = 2 ^ 30
 -- at least 2 ^ 30 bytes were heard
 abbrev pub HeardMuch : Told → Type 0
 HeardMuch told = (heard : Exchanges) → told.heard ≡ Some heard → limit ≤ heard_size heard
+
+-- fewer were heard
+abbrev pub HeardFew : Told → Type 0
+HeardFew told = (heard : Exchanges) → told.heard ≡ Some heard → heard_size heard < limit
 
 -- Frames were answered in these turns and then in a last one, whose line or reply went out in part: all else was written.
 -- R says what the turns are.
@@ -67,11 +77,11 @@ pub record IsFront (bytes : List ℕ) (turn : Turn) : Type 0 where
   pub rest : List ℕ
   pub fronts : Fronts bytes turn.frame.channel turn.frame.payload rest
 
--- why the frames at the front were not all answered
+-- why the frames at the front were not all answered: what was heard is counted once the next frame is whole
 abbrev pub WhyStopped : Stop → Told → List ℕ → Type 0
 WhyStopped stop.Bad told held = BeginsNone held
 WhyStopped stop.TooMuch told held = HeardMuch told × IsWhole held
-WhyStopped stop.Unbuilt told held = IsUnbuilt held
+WhyStopped stop.Unbuilt told held = HeardFew told × IsUnbuilt held
 WhyStopped stop.Write told held = ⊥
 
 -- what came of the frames at the front of what is held
@@ -88,38 +98,58 @@ PieceOutcome items r s a b out_a out_b log_a log_b o piece n (Err stop.Write) = 
 PieceOutcome items r s a b out_a out_b log_a log_b o piece n (Err why) = (turns : List Turn) × (front : List ℕ) × (left : List ℕ) × (piece ≡ front ++ left)
     × AnsweredOver items r s a b out_a out_b log_a log_b o front n turns × WhyStopped why b n.held
 
--- A session: of the bytes that came, these frames were answered in these turns, and the rest was not; the replies and the
--- lines of the log were written and nothing else. R says what the turns are.
-pub record Session (R : List Turn → Type 0) (left_old left_new out_old out_new log_old log_new : Option (List ℕ)) (bytes rest : List ℕ) (turns : List Turn) : Type 0 where
-  pub came : Came left_old left_new (frames_of turns) bytes rest
+-- of the bytes behind the frames of some turns, those within the limit
+abbrev pub in_limit : List Turn → List ℕ → List ℕ
+in_limit turns rest = take (limit - turns_size turns) rest
+
+-- no frame begins with these bytes, or the input ends inside one and within the limit
+abbrev pub IsBad : Option (List ℕ) → List ℕ → List ℕ → Type 0
+IsBad left bytes front = BeginsNone front ⊎ ((front ≢ []) × IsCutOff front × IsAtEnd left × (length bytes ≤ limit))
+
+-- so much was heard before the next frame, which is whole, or more bytes came and those within the limit end inside a frame
+-- or at its border
+abbrev pub IsMuch : Told → List ℕ → List ℕ → Type 0
+IsMuch told bytes front = (HeardMuch told × IsWhole front) ⊎ ((limit < length bytes) × IsCutOff front)
+
+-- Why a session ended, by the bytes that came, and by those within the limit that follow the frames that were answered. Ok: the
+-- input was read to its end, at a frame's border. Read: what is left is no whole frame, and may become one. BadFrame and
+-- Unbuilt: the next frame begins at this offset. TooMuch: a limit was reached.
+abbrev pub WhyEnded : Told → Option (List ℕ) → List ℕ → List ℕ → ℕ → Result (Unit {0}) SessionEnd → Type 0
+WhyEnded told left bytes front next (Ok _) = (front ≡ []) × IsAtEnd left × (length bytes ≤ limit)
+WhyEnded told left bytes front next (Err Read) = IsCutOff front × (length bytes ≤ limit)
+WhyEnded told left bytes front next (Err (BadFrame at)) = (at ≡ next) × IsBad left bytes front
+WhyEnded told left bytes front next (Err TooMuch) = IsMuch told bytes front
+WhyEnded told left bytes front next (Err (Unbuilt at)) = (at ≡ next) × HeardFew told × IsUnbuilt front
+WhyEnded told left bytes front next (Err Write) = ⊥
+
+-- A session that ended so: the frames that were answered are whole within the limit, and this is why no other was.
+pub record Sits (R : List Turn → Type 0) (told : Told) (old new : Streams) (result : Result (Unit {0}) SessionEnd) : Type 0 where
+  pub bytes : List ℕ
+  pub rest : List ℕ
+  pub turns : List Turn
+  pub came : Came old.input new.input (frames_of turns) bytes rest
+  pub within : turns_size turns ≤ limit
   pub runs : R turns
-  pub written : Appends out_old out_new (out_bytes turns)
-  pub logged : Appends log_old log_new (log_bytes 0 turns)
+  pub written : Appends old.out new.out (out_bytes turns)
+  pub logged : Appends old.log new.log (log_bytes 0 turns)
+  pub why : WhyEnded told new.input bytes (in_limit turns rest) (turns_size turns) result
 
--- no frame begins with the rest, or the input ends inside one
-abbrev pub IsBad : Option (List ℕ) → List ℕ → Type 0
-IsBad left rest = BeginsNone rest ⊎ ((rest ≢ []) × IsCutOff rest × IsAtEnd left)
+-- A session whose output or log failed: the frame of the last turn, whose line or reply went out in part, is whole within the
+-- limit too.
+pub record SitsCut (R : List Turn → Type 0) (old new : Streams) : Type 0 where
+  pub bytes : List ℕ
+  pub rest : List ℕ
+  pub turns : List Turn
+  pub last : Turn
+  pub came : Came old.input new.input (frames_of turns) bytes rest
+  pub within : turns_size turns ≤ limit
+  pub front : IsFront (in_limit turns rest) last
+  pub ran : RanCut R 0 old.out new.out old.log new.log turns last
 
--- so much was heard before a frame, or so many bytes came that these are the frames that are whole within the limit
-pub record IsPastLimit (bytes : List ℕ) (turns : List Turn) : Type 0 where
-  pub many : limit < length bytes
-  pub within : List ℕ
-  pub splits : Splits (take limit bytes) (frames_of turns) within
-  pub none : NoFrameIn within
-
-abbrev pub IsMuch : Told → List ℕ → List ℕ → List Turn → Type 0
-IsMuch told bytes rest turns = (HeardMuch told × IsWhole rest) ⊎ IsPastLimit bytes turns
-
--- A session that ended so. Ok: the input was read to its end, at a frame's border. Read: all frames that are whole in what came
--- were answered. BadFrame and Unbuilt: all frames before this offset. Write: the last turn's line or reply went out in part.
-abbrev pub IsSession : (List Turn → Type 0) → Told → Option (List ℕ) → Option (List ℕ) → Option (List ℕ) → Option (List ℕ) → Option (List ℕ) → Option (List ℕ) → Result (Unit {0}) SessionEnd → Type 0
-IsSession R b in_a in_b out_a out_b log_a log_b (Ok _) = (bytes : List ℕ) × (turns : List Turn) × Session R in_a in_b out_a out_b log_a log_b bytes [] turns × IsAtEnd in_b
-IsSession R b in_a in_b out_a out_b log_a log_b (Err Read) = (bytes : List ℕ) × (rest : List ℕ) × (turns : List Turn) × Session R in_a in_b out_a out_b log_a log_b bytes rest turns × NoFrameIn rest
-IsSession R b in_a in_b out_a out_b log_a log_b (Err (BadFrame at)) = (bytes : List ℕ) × (rest : List ℕ) × (turns : List Turn) × Session R in_a in_b out_a out_b log_a log_b bytes rest turns × (at ≡ turns_size turns) × IsBad in_b rest
-IsSession R b in_a in_b out_a out_b log_a log_b (Err TooMuch) = (bytes : List ℕ) × (rest : List ℕ) × (turns : List Turn) × Session R in_a in_b out_a out_b log_a log_b bytes rest turns × IsMuch b bytes rest turns
-IsSession R b in_a in_b out_a out_b log_a log_b (Err (Unbuilt at)) = (bytes : List ℕ) × (rest : List ℕ) × (turns : List Turn) × Session R in_a in_b out_a out_b log_a log_b bytes rest turns × (at ≡ turns_size turns) × IsUnbuilt rest
-IsSession R b in_a in_b out_a out_b log_a log_b (Err Write) = (bytes : List ℕ) × (rest : List ℕ) × (turns : List Turn) × (last : Turn)
-    × Came in_a in_b (frames_of turns) bytes rest × IsFront rest last × RanCut R 0 out_a out_b log_a log_b turns last
+-- a session that ended so, by what the host told after it
+abbrev pub IsSession : (List Turn → Type 0) → Told → Streams → Streams → Result (Unit {0}) SessionEnd → Type 0
+IsSession R told old new (Err Write) = SitsCut R old new
+IsSession R told old new result = Sits R told old new result
 
 -- what a stop at this offset ends a session with
 abbrev pub end_of : Stop → ℕ → SessionEnd

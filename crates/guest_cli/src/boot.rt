@@ -99,7 +99,9 @@ pub fn boot<H: Host>(
 ) -> Result<Machine, BootFault>
     requires plan { (text : List ℕ) × IsPlan text (known plan.now) }
     requires built { first_unbuilt (known plan.now) ≡ None }
-    ensures booted { Did (IsForLines plan.now.lines.items) (most_of plan.now.lines.items) (H.told host.old) (H.told host.new) (BootedOutcome plan.now.lines.items plan.now.numbers.items result) }
+    ensures booted { Did (IsForLines plan.now.lines.items) (most_of plan.now.lines.items)
+        (H.told host.old) (H.told host.new)
+        (BootedOutcome plan.now.lines.items plan.now.numbers.items result) }
     ensures state { IfOk result (λ m. m.engine.state ≡ record { entropy = entropy }) }
     ensures splitter { IfOk result (λ m. m.splitter ≡ record { held = []; at = 0 }) }
 {
@@ -116,7 +118,7 @@ pub fn boot<H: Host>(
             });
         }
     };
-    let opened = match open_lines(alloc, host, &plan.lines, &plan.numbers, &mut buf) {
+    let opened = match open_lines(alloc, host, &plan.lines, &plan.numbers, &mut buf.raw) {
         Ok(opened) => opened,
         Err(fault) => return Err(fault),
     };

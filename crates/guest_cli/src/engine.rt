@@ -101,7 +101,9 @@ impl Engine {
     // An engine of these devices and files.
     pub(crate) fn new(opened: Opened, entropy: Entropy, served: Served, buf: Buffers) -> Engine
         requires { AreItems opened.items.items }
-        ensures { result ≡ record { items = opened.items.items; files = opened.files.items; state = record { entropy = entropy }; served = served } }
+        ensures { result ≡ record
+            { items = opened.items.items; files = opened.files.items; state = record
+            { entropy = entropy }; served = served } }
     {
         let Opened { items, files } = opened;
         Engine {
@@ -126,7 +128,8 @@ fn work<H: Host>(engine: &mut Engine, host: &mut H, channel: u8, payload: &[u8])
     requires channel { channel ≡ 1 }
     requires payload { length payload.now ≡ 16 }
     ensures items { engine.new.items ≡ engine.old.items }
-    ensures step { Stepped engine.old.items engine.old.state engine.new.state (H.told host.old) (H.told host.new)
+    ensures step { Stepped engine.old.items engine.old.state engine.new.state (H.told host.old)
+        (H.told host.new)
         (record { channel = channel; payload = payload.now }) (sent_of result.reply engine.new.served) result.cause }
 {
     let question = parse(payload);
@@ -140,12 +143,12 @@ fn work<H: Host>(engine: &mut Engine, host: &mut H, channel: u8, payload: &[u8])
     engine.served.clear();
     let done = read_range(
         host,
-        &it.layout,
-        &it.measure,
+        it,
         4096 * it.measure.blocks,
         question.offset,
         question.size,
-        &mut engine.buf,
+        &mut engine.buf.raw,
+        &mut engine.buf.page,
         &mut engine.served,
     );
     read_answer(done)
@@ -153,7 +156,8 @@ fn work<H: Host>(engine: &mut Engine, host: &mut H, channel: u8, payload: &[u8])
 
 /// The work of one frame: the reply, and why it is a failure. A read of a measured item is answered with code 2 where there is
 /// no such item, else with 22 where its size is above 131,072, else with the bytes, or with 5 or 12. Over a host
-/// that holds the item as it was measured, a read in which no call fails is answered with the bytes, or with 12.
+/// that holds the item as it was measured, a read in which no call fails is answered with the bytes, or with 12, and so is each
+/// read over an honest one.
 pub fn answer_frame<H: Host>(
     engine: &mut Engine,
     host: &mut H,
@@ -163,7 +167,8 @@ pub fn answer_frame<H: Host>(
     requires channel { channel ≡ 1 }
     requires payload { length payload.now ≡ 16 }
     ensures items { engine.new.items ≡ engine.old.items }
-    ensures step { Stepped engine.old.items engine.old.state engine.new.state (H.told host.old) (H.told host.new)
+    ensures step { Stepped engine.old.items engine.old.state engine.new.state (H.told host.old)
+        (H.told host.new)
         (record { channel = channel; payload = payload.now }) (sent_of result.reply engine.new.served) result.cause }
     ensures served { ReadIsServed engine.old.items (H.told host.old) (H.told host.new)
         (record { channel = channel; payload = payload.now }) (sent_of result.reply engine.new.served) result.cause }

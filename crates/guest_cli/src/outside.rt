@@ -62,9 +62,11 @@ pub(crate) fn load<F: Folder>(
 ) -> Result<Vec<u8>, Status>
     requires { loaded.old ≤ 2 ^ 31 }
     ensures files { F.files folder.new ≡ F.files folder.old }
-    ensures ok { IfOk result (λ v. IsLoaded (F.files folder.old) name.now loaded.old loaded.new v.items) }
+    ensures ok { IfOk result
+        (λ v. IsLoaded (F.files folder.old) name.now loaded.old loaded.new v.items) }
     ensures err { IfErr result (LoadFault (F.files folder.old) name.now loaded.old) }
-    ensures cause { InputsCause (F.faults folder.old) (F.faults folder.new) (F.last_failed folder.new) result }
+    ensures cause { InputsCause (F.faults folder.old) (F.faults folder.new)
+        (F.last_failed folder.new) result }
 {
     match load_file(alloc, folder, name, loaded) {
         Ok(bytes) => Ok(bytes),

@@ -47,9 +47,12 @@ fn load_inputs<F: Folder>(
     entropy: &str,
 ) -> Result<Inputs, Status>
     ensures files { F.files folder.new ≡ F.files folder.old }
-    ensures ok { IfOk result (λ i. IsReady (F.files folder.old) plan.now tape.now entropy.now (known i.plan) i.tape i.entropy) }
+    ensures ok { IfOk result
+        (λ i. IsReady (F.files folder.old) plan.now tape.now entropy.now (known i.plan) i.tape
+        i.entropy) }
     ensures err { IfErr result (InputsFail (F.files folder.old) plan.now tape.now entropy.now) }
-    ensures cause { InputsCause (F.faults folder.old) (F.faults folder.new) (F.last_failed folder.new) result }
+    ensures cause { InputsCause (F.faults folder.old) (F.faults folder.new)
+        (F.last_failed folder.new) result }
 {
     let mut loaded = 0;
     let text = match load(alloc, folder, plan, &mut loaded) {
@@ -90,10 +93,12 @@ fn play<S: Source, K: Sink, L: Sink>(
     requires plan { (text : List ℕ) × IsPlan text (known inputs.plan) }
     requires built { first_unbuilt (known inputs.plan) ≡ None }
     requires fresh { inputs.tape ≡ unplayed inputs.tape.records }
-    ensures played { PlayOutcome (known inputs.plan) inputs.tape inputs.entropy (record { input = S.left input.old; out = K.holds out.old; log = L.holds log.old })
+    ensures played { PlayOutcome (known inputs.plan) inputs.tape inputs.entropy
+        (record { input = S.left input.old; out = K.holds out.old; log = L.holds log.old })
         (record { input = S.left input.new; out = K.holds out.new; log = L.holds log.new }) result }
     ensures read { result ≡ Status.ReadFault → Rose (S.faults input.old) (S.faults input.new) }
-    ensures write { result ≡ Status.WriteFault → Rose (K.faults out.old) (K.faults out.new) ⊎ Rose (L.faults log.old) (L.faults log.new) }
+    ensures write { result ≡ Status.WriteFault → Rose (K.faults out.old) (K.faults out.new) ⊎ Rose
+        (L.faults log.old) (L.faults log.new) }
     ensures out { K.faults out.old ≤ K.faults out.new }
     ensures log { L.faults log.old ≤ L.faults log.new }
 {
@@ -129,11 +134,14 @@ pub(crate) fn replay<F: Folder, S: Source, K: Sink, L: Sink>(
     log: &mut L,
 ) -> Status
     ensures files { F.files folder.new ≡ F.files folder.old }
-    ensures replays { Replays (F.files folder.old) plan.now tape.now entropy.now (record { input = S.left input.old; out = K.holds out.old; log = L.holds log.old })
+    ensures replays { Replays (F.files folder.old) plan.now tape.now entropy.now
+        (record { input = S.left input.old; out = K.holds out.old; log = L.holds log.old })
         (record { input = S.left input.new; out = K.holds out.new; log = L.holds log.new }) result }
-    ensures file { LoadCause (F.faults folder.old) (F.faults folder.new) (F.last_failed folder.new) result }
+    ensures file { LoadCause (F.faults folder.old) (F.faults folder.new) (F.last_failed folder.new)
+        result }
     ensures read { result ≡ Status.ReadFault → Rose (S.faults input.old) (S.faults input.new) }
-    ensures write { result ≡ Status.WriteFault → Rose (K.faults out.old) (K.faults out.new) ⊎ Rose (L.faults log.old) (L.faults log.new) }
+    ensures write { result ≡ Status.WriteFault → Rose (K.faults out.old) (K.faults out.new) ⊎ Rose
+        (L.faults log.old) (L.faults log.new) }
     ensures out { K.faults out.old ≤ K.faults out.new }
     ensures log { L.faults log.old ≤ L.faults log.new }
 {

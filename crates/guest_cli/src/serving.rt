@@ -52,10 +52,13 @@ fn load_inputs<F: Folder>(
     entropy: &str,
 ) -> Result<Inputs, Status>
     ensures files { F.files folder.new ≡ F.files folder.old }
-    ensures ok { IfOk result (λ i. IsStocked (F.files folder.old) plan.now store.now entropy.now (known i.plan) i.list.lines.items (mem_held i.host) i.entropy) }
+    ensures ok { IfOk result
+        (λ i. IsStocked (F.files folder.old) plan.now store.now entropy.now (known i.plan)
+        i.list.lines.items (mem_held i.host) i.entropy) }
     ensures count { IfOk result (λ i. i.host.count ≡ unused) }
     ensures err { IfErr result (ServedFails (F.files folder.old) plan.now store.now entropy.now) }
-    ensures cause { InputsCause (F.faults folder.old) (F.faults folder.new) (F.last_failed folder.new) result }
+    ensures cause { InputsCause (F.faults folder.old) (F.faults folder.new)
+        (F.last_failed folder.new) result }
 {
     let mut loaded = 0;
     let text = match load(alloc, folder, plan, &mut loaded) {
@@ -103,10 +106,12 @@ fn sit<S: Source, K: Sink, L: Sink>(
     requires plan { (text : List ℕ) × IsPlan text (known plan.now) }
     requires built { first_unbuilt (known plan.now) ≡ None }
     requires fresh { host.count ≡ unused }
-    ensures sat { SatOutcome (known plan.now) (mem_held host) entropy (record { input = S.left input.old; out = K.holds out.old; log = L.holds log.old })
+    ensures sat { SatOutcome (known plan.now) (mem_held host) entropy
+        (record { input = S.left input.old; out = K.holds out.old; log = L.holds log.old })
         (record { input = S.left input.new; out = K.holds out.new; log = L.holds log.new }) result }
     ensures read { result ≡ Err Status.ReadFault → Rose (S.faults input.old) (S.faults input.new) }
-    ensures write { result ≡ Err Status.WriteFault → Rose (K.faults out.old) (K.faults out.new) ⊎ Rose (L.faults log.old) (L.faults log.new) }
+    ensures write { result ≡ Err Status.WriteFault → Rose (K.faults out.old) (K.faults out.new) ⊎
+        Rose (L.faults log.old) (L.faults log.new) }
     ensures out { K.faults out.old ≤ K.faults out.new }
     ensures log { L.faults log.old ≤ L.faults log.new }
 {
@@ -137,9 +142,11 @@ fn store_all<F: Folder>(
     host: &Recorder<MemHost>,
     lines: &[StoreLine],
 ) -> Status
-    ensures stored { StoreOutcome (F.files folder.old) tape_out.now host.now.kept.items (mem_held host.now.host) lines.now (F.files folder.new) result }
+    ensures stored { StoreOutcome (F.files folder.old) tape_out.now host.now.kept.items
+        (mem_held host.now.host) lines.now (F.files folder.new) result }
     ensures each { length host.now.kept.calls ≡ length host.now.kept.items }
-    ensures cause { StoresCause (F.faults folder.old) (F.faults folder.new) (F.last_failed folder.new) result }
+    ensures cause { StoresCause (F.faults folder.old) (F.faults folder.new)
+        (F.last_failed folder.new) result }
 {
     match store_file(alloc, folder, tape_out, host.text()) {
         Ok(()) => {}
@@ -163,11 +170,14 @@ pub(crate) fn serve_list<F: Folder, S: Source, K: Sink, L: Sink>(
     out: &mut K,
     log: &mut L,
 ) -> Status
-    ensures serves { ServesList (F.files folder.old) (F.files folder.new) (F.last_failed folder.new) plan.now store.now entropy.now tape_out.now
+    ensures serves { ServesList (F.files folder.old) (F.files folder.new) (F.last_failed folder.new)
+        plan.now store.now entropy.now tape_out.now
         (record { input = S.left input.old; out = K.holds out.old; log = L.holds log.old }) (record { input = S.left input.new; out = K.holds out.new; log = L.holds log.new }) result }
-    ensures file { FileCause (F.faults folder.old) (F.faults folder.new) (F.last_failed folder.new) result }
+    ensures file { FileCause (F.faults folder.old) (F.faults folder.new) (F.last_failed folder.new)
+        result }
     ensures read { result ≡ Status.ReadFault → Rose (S.faults input.old) (S.faults input.new) }
-    ensures write { result ≡ Status.WriteFault → Rose (K.faults out.old) (K.faults out.new) ⊎ Rose (L.faults log.old) (L.faults log.new) }
+    ensures write { result ≡ Status.WriteFault → Rose (K.faults out.old) (K.faults out.new) ⊎ Rose
+        (L.faults log.old) (L.faults log.new) }
     ensures out { K.faults out.old ≤ K.faults out.new }
     ensures log { L.faults log.old ≤ L.faults log.new }
 {

@@ -50,10 +50,13 @@ fn turn<H: Host, K: Sink, L: Sink>(
 ) -> Result<(), Failed>
     requires payload { length payload.now ≡ 16 }
     ensures items { engine.new.items ≡ engine.old.items }
-    ensures turn { TurnOutcome engine.old.items engine.old.state engine.new.state (H.told host.old) (H.told host.new) at (K.holds out.old) (K.holds out.new) (L.holds log.old) (L.holds log.new) payload.now result }
+    ensures turn { TurnOutcome engine.old.items engine.old.state engine.new.state (H.told host.old)
+        (H.told host.new) at (K.holds out.old) (K.holds out.new) (L.holds log.old) (L.holds log.new)
+        payload.now result }
     ensures out { K.faults out.old ≤ K.faults out.new }
     ensures log { L.faults log.old ≤ L.faults log.new }
-    ensures cause { OnErr result (Rose (K.faults out.old) (K.faults out.new) ⊎ Rose (L.faults log.old) (L.faults log.new)) }
+    ensures cause { OnErr result
+        (Rose (K.faults out.old) (K.faults out.new) ⊎ Rose (L.faults log.old) (L.faults log.new)) }
 {
     let answer = answer_frame(engine, host, 1, payload);
     if let Some(cause) = answer.cause {
@@ -76,10 +79,13 @@ fn answer_held<H: Host, K: Sink, L: Sink>(
 ) -> Result<(), Stop>
     requires { splitter.old.at + length splitter.old.held < 2 ^ 64 }
     ensures items { engine.new.items ≡ engine.old.items }
-    ensures held { HeldOutcome engine.old.items engine.old.state engine.new.state (H.told host.old) (H.told host.new) (K.holds out.old) (K.holds out.new) (L.holds log.old) (L.holds log.new) splitter.old splitter.new result }
+    ensures held { HeldOutcome engine.old.items engine.old.state engine.new.state (H.told host.old)
+        (H.told host.new) (K.holds out.old) (K.holds out.new) (L.holds log.old) (L.holds log.new)
+        splitter.old splitter.new result }
     ensures out { K.faults out.old ≤ K.faults out.new }
     ensures log { L.faults log.old ≤ L.faults log.new }
-    ensures cause { result ≡ Err Stop.Write → Rose (K.faults out.old) (K.faults out.new) ⊎ Rose (L.faults log.old) (L.faults log.new) }
+    ensures cause { result ≡ Err Stop.Write → Rose (K.faults out.old) (K.faults out.new) ⊎ Rose
+        (L.faults log.old) (L.faults log.new) }
 {
     loop {
         let (channel, payload) = match splitter.next() {
@@ -87,11 +93,11 @@ fn answer_held<H: Host, K: Sink, L: Sink>(
             Next::More => return Ok(()),
             Next::Bad => return Err(Stop::Bad),
         };
-        if channel != 1 {
-            return Err(Stop::Unbuilt);
-        }
         if host.heard_bytes() >= LIMIT {
             return Err(Stop::TooMuch);
+        }
+        if channel != 1 {
+            return Err(Stop::Unbuilt);
         }
         match turn(engine, host, payload, splitter.at(), out, log) {
             Ok(()) => {}
@@ -113,10 +119,13 @@ fn answer_piece<H: Host, K: Sink, L: Sink>(
     requires at { splitter.old.at + (length splitter.old.held + length piece.now) < 2 ^ 64 }
     requires cut { IsCutOff splitter.old.held }
     ensures items { engine.new.items ≡ engine.old.items }
-    ensures piece { PieceOutcome engine.old.items engine.old.state engine.new.state (H.told host.old) (H.told host.new) (K.holds out.old) (K.holds out.new) (L.holds log.old) (L.holds log.new) splitter.old piece.now splitter.new result }
+    ensures piece { PieceOutcome engine.old.items engine.old.state engine.new.state
+        (H.told host.old) (H.told host.new) (K.holds out.old) (K.holds out.new) (L.holds log.old)
+        (L.holds log.new) splitter.old piece.now splitter.new result }
     ensures out { K.faults out.old ≤ K.faults out.new }
     ensures log { L.faults log.old ≤ L.faults log.new }
-    ensures cause { result ≡ Err Stop.Write → Rose (K.faults out.old) (K.faults out.new) ⊎ Rose (L.faults log.old) (L.faults log.new) }
+    ensures cause { result ≡ Err Stop.Write → Rose (K.faults out.old) (K.faults out.new) ⊎ Rose
+        (L.faults log.old) (L.faults log.new) }
 {
     let mut left = piece;
     while left.len() > 0 {
@@ -155,9 +164,15 @@ pub fn session<H: Host, S: Source, K: Sink, L: Sink>(
 ) -> Result<(), SessionEnd>
     requires { splitter.old ≡ record { held = []; at = 0 } }
     ensures items { engine.new.items ≡ engine.old.items }
-    ensures run { IsSession (Runs engine.old.items engine.old.state engine.new.state (H.told host.old) (H.told host.new)) (H.told host.new) (S.left input.old) (S.left input.new) (K.holds out.old) (K.holds out.new) (L.holds log.old) (L.holds log.new) result }
+    ensures run { IsSession
+        (Runs engine.old.items engine.old.state engine.new.state (H.told host.old)
+        (H.told host.new))
+        (H.told host.new)
+        (record { input = S.left input.old; out = K.holds out.old; log = L.holds log.old })
+        (record { input = S.left input.new; out = K.holds out.new; log = L.holds log.new }) result }
     ensures read { result ≡ Err SessionEnd.Read → Rose (S.faults input.old) (S.faults input.new) }
-    ensures write { result ≡ Err SessionEnd.Write → Rose (K.faults out.old) (K.faults out.new) ⊎ Rose (L.faults log.old) (L.faults log.new) }
+    ensures write { result ≡ Err SessionEnd.Write → Rose (K.faults out.old) (K.faults out.new) ⊎
+        Rose (L.faults log.old) (L.faults log.new) }
     ensures out { K.faults out.old ≤ K.faults out.new }
     ensures log { L.faults log.old ≤ L.faults log.new }
 {

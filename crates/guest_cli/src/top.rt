@@ -20,11 +20,16 @@ fn serve<F: Folder, S: Source, K: Sink, L: Sink>(
     out: &mut K,
     log: &mut L,
 ) -> Status
-    ensures serves { Serves (command_of (map string_bytes words.now)) (record { old = F.files folder.old; new = F.files folder.new; last = F.last_failed folder.new }) (record { input = S.left input.old; out = K.holds out.old; log = L.holds log.old })
+    ensures serves { Serves (command_of (map string_bytes words.now))
+        (record { old = F.files folder.old; new = F.files folder.new; last = F.last_failed
+        folder.new }) (record
+        { input = S.left input.old; out = K.holds out.old; log = L.holds log.old })
         (record { input = S.left input.new; out = K.holds out.new; log = L.holds log.new }) result }
-    ensures file { FileCause (F.faults folder.old) (F.faults folder.new) (F.last_failed folder.new) result }
+    ensures file { FileCause (F.faults folder.old) (F.faults folder.new) (F.last_failed folder.new)
+        result }
     ensures read { result ≡ Status.ReadFault → Rose (S.faults input.old) (S.faults input.new) }
-    ensures write { result ≡ Status.WriteFault → Rose (K.faults out.old) (K.faults out.new) ⊎ Rose (L.faults log.old) (L.faults log.new) }
+    ensures write { result ≡ Status.WriteFault → Rose (K.faults out.old) (K.faults out.new) ⊎ Rose
+        (L.faults log.old) (L.faults log.new) }
     ensures out { K.faults out.old ≤ K.faults out.new }
     ensures log { L.faults log.old ≤ L.faults log.new }
 {
@@ -72,11 +77,16 @@ pub fn guest<F: Folder, S: Source, K: Sink, L: Sink>(
     out: &mut K,
     log: &mut L,
 ) -> Status
-    ensures guest { Guest (command_of (map string_bytes words.now)) (record { old = F.files folder.old; new = F.files folder.new; last = F.last_failed folder.new }) (record { input = S.left input.old; out = K.holds out.old; log = L.holds log.old })
+    ensures guest { Guest (command_of (map string_bytes words.now))
+        (record { old = F.files folder.old; new = F.files folder.new; last = F.last_failed
+        folder.new }) (record
+        { input = S.left input.old; out = K.holds out.old; log = L.holds log.old })
         (record { input = S.left input.new; out = K.holds out.new; log = L.holds log.new }) result }
-    ensures file { FileCause (F.faults folder.old) (F.faults folder.new) (F.last_failed folder.new) result }
+    ensures file { FileCause (F.faults folder.old) (F.faults folder.new) (F.last_failed folder.new)
+        result }
     ensures read { result ≡ Status.ReadFault → Rose (S.faults input.old) (S.faults input.new) }
-    ensures write { result ≡ Status.WriteFault → Rose (K.faults out.old) (K.faults out.new) ⊎ Rose (L.faults log.old) (L.faults log.new) }
+    ensures write { result ≡ Status.WriteFault → Rose (K.faults out.old) (K.faults out.new) ⊎ Rose
+        (L.faults log.old) (L.faults log.new) }
 {
     let status = serve(alloc, words, folder, input, out, log);
     match write_end(&status, log) {

@@ -75,9 +75,9 @@ pub record IsHeldAt (h : Held) (disk : ℕ) (it : Device) (m : Measure) (content
 
 module _ (h : Held) (disk : ℕ) (apk idsig : List ℕ) (how : How) (m : Measure) (content : List ℕ) (holds : HoldsApk h disk apk idsig how m content) where
   pub true_table : (own : Exchanges) (u : Table) → AreTrue h disk own → ReadsTable disk own u → u ≡ holds.table
-  true_table own u heard r = table_held h disk holds.on holds.there holds.sectors holds.table holds.whole holds.are_bytes holds.is_table own u heard r
+  true_table own u heard r = table_held h disk holds.on holds.there holds.sectors holds.table holds.whole holds.are_bytes holds.is_table own heard u r
 
-  has_it : (o : Option Table) (own : Exchanges) (u : Table) → ((v : Table) → o ≡ Some v → v ≡ holds.table) → AreTrue h disk own → HasTable o disk own u → u ≡ holds.table
+  pub has_it : (o : Option Table) (own : Exchanges) (u : Table) → ((v : Table) → o ≡ Some v → v ≡ holds.table) → AreTrue h disk own → HasTable o disk own u → u ≡ holds.table
   has_it None own u known heard has = true_table own u heard has
   has_it (Some v) own u known heard has = has.1 ∙ known v refl
 
@@ -113,6 +113,7 @@ module _ (h : Held) (disk : ℕ) (apk idsig : List ℕ) (how : How) (m : Measure
         holds = record {
           disk = holds.on;
           there = holds.there;
+          whole = omega (arith, holds.whole);
           blocks = ap (λ (z : Measure). take (4096 * z.blocks) (drop (512 * holds.first.first) holds.on.bytes)) measure ∙ holds.content_is;
           tree = ap (λ (n : ℕ). take n (drop at holds.on.bytes)) (sym same ∙ len) ∙ holds.tree ∙ ap (λ (z : Measure). stored_tree content z.salt) (sym measure);
         };

@@ -5,4 +5,9 @@ pub mod Lines
 pub mod Items
 pub mod Calls
 pub mod Served
+pub mod Asking
+pub mod Inside
+pub mod Passes
+pub mod Boots
 pub mod Sat
+mod Example

@@ -42,7 +42,7 @@ module _ (h : Held) (disk : ℕ) (t : Table) (true_table : (own : Exchanges) (u 
   knows_with None ts d own u known heard has = knows_more ts d u known (λ e. true_table own u heard (subst (λ (n : ℕ). ReadsTable n own u) e has))
   knows_with (Some v) ts d own u known heard has = known
 
-  line_knows : (s mid : Booted) (l : PlanLine) (own : Exchanges) → Knows disk t s.tables → AreTrue h disk own → LineBoots s l own mid → Knows disk t mid.tables
+  pub line_knows : (s mid : Booted) (l : PlanLine) (own : Exchanges) → Knows disk t s.tables → AreTrue h disk own → LineBoots s l own mid → Knows disk t mid.tables
   line_knows s mid (line.Blob file m) own known heard b = subst (λ (z : Booted). Knows disk t z.tables) (sym b.1) known
   line_knows s mid (line.Apk d a i how) own known heard b =
       let f = b.found in

@@ -1,14 +1,17 @@
 -- What a disk holds for an `apk` line, and what that says of the reads of its device.
-use Rattle.std.specs.Prelude.{◌≡◌, ◌+◌, ◌-◌, ◌*◌, ◌<◌, ℕ, All, Bool, true, false, List, [], length, take, drop, filter, slice_get, Option, Some, Ok}
+use Rattle.std.specs.Prelude.{◌≡◌, ◌+◌, ◌-◌, ◌*◌, ◌^◌, ◌<◌, ◌≤◌, ℕ, All, Bool, true, false, List, [], length, take, drop, filter, slice_get, Option, Some, Ok}
 use Rattle.mg_base.specs.declared.values.Span.{Span}
 use Rattle.host_traits.specs.declared.calls.Call.{Call}
 use Rattle.host_traits.specs.declared.calls.Call.TheVariants.{BlockSize, BlockRead}
 use Rattle.host_traits.specs.declared.calls.Said.{Said}
 use Rattle.host_traits.specs.Did.{IsIn}
 use Rattle.host_traits.specs.Held.{Held, Disk, serve}
-use Rattle.host_traits.specs.Told.{Exchanges, Rose, heard_of}
+use Rattle.host_traits.specs.Told.{Exchanges, heard_of, failures_of}
 use Rattle.sha_tree.specs.declared.measure.Measure.{Measure}
-use Rattle.sha_tree.specs.Tree.{stored_tree}
+use Rattle.sha_tree.specs.Measured.{IsMeasured}
+use Rattle.sha_tree.specs.Tree.{block_count, root, stored_tree}
+use Rattle.verity_descriptor.specs.Spelling.{descriptor_bytes}
+use Rattle.mg_base.specs.declared.values.Digest.{Digest}
 use Rattle.verity_path.specs.declared.device.Device.{Device}
 use Rattle.gpt.specs.declared.values.Table.{Table}
 use Rattle.gpt.specs.Grammar.{IsGpt}
@@ -19,12 +22,13 @@ use Rattle.guest_plan.specs.declared.plan.How.{How}
 use Rattle.guest_plan.specs.declared.plan.PlanLine.{PlanLine}
 use Rattle.guest_plan.specs.declared.plan.PlanLine.TheVariants as line
 use Rattle.ro_file.specs.Files.{MeasuredFile}
+use Rattle.ro_file.specs.Contents.{descriptor_of, IsFileMeasured}
 use Rattle.guest_boot.specs.Finding.{parts_in}
 use Rattle.guest_boot.specs.Booting.{AreServed, measure_in}
 use Rattle.guest_rules.specs.Machine.{World, Moment, Turn, ItemRead, request_of, read_of}
 use Rattle.guest_rules.specs.Step.{Step}
 use Rattle.guest_rules.specs.Run.{IsWorld}
-use Rattle.guest_rules.specs.Faithful.{IsDefined}
+use Rattle.guest_rules.specs.Faithful.{HoldsFile, IsDefined}
 use Rattle.guest_cli.specs.Booted.{Opens}
 
 -- ---- what a disk holds
@@ -49,6 +53,57 @@ pub record HoldsApk (h : Held) (disk : ℕ) (apk idsig : List ℕ) (how : How) (
   pub measure : measure_of first (measure_in how) head ≡ Ok m
   pub tree : take head.tree_len (drop (512 * second.first + head.tree_at) on.bytes) ≡ stored_tree content m.salt
 
+-- a content's measure as a file's
+abbrev pub measure_of_file : List ℕ → List ℕ → Measure
+measure_of_file content salt = record { blocks = block_count (length content); salt = salt; root = record { 0 = root content salt } }
+
+-- What is held has a content at a `file` line: the file has its bytes, the pages of its tree under this salt, and its
+-- descriptor, whose digest is the line's.
+pub record HoldsReadOnly (h : Held) (number : ℕ) (digest : Digest) (content salt : List ℕ) : Type 0 where
+  pub holds : HoldsFile h number (length content) (measure_of_file content salt) content
+  pub descriptor : holds.file.descriptor ≡ descriptor_bytes (descriptor_of content salt)
+  pub measured : IsFileMeasured digest content salt
+  pub short : length salt ≤ 32
+  pub few : length content ≤ 2 ^ 32
+
+-- ---- the line of an item
+
+abbrev pub makes_item : PlanLine → Bool
+makes_item (line.Blob file m) = true
+makes_item (line.Apk disk apk idsig how) = true
+makes_item other = false
+
+abbrev pub item_line : List PlanLine → ℕ → Option PlanLine
+item_line lines k = slice_get (filter makes_item lines) k
+
+-- what is held has the measured content of an item at its `blob` line, or at its `apk` line
+pub record FitsBlob (h : Held) (content : Option (List ℕ)) (file : ℕ) (m : Measure) : Type 0 where
+  pub bytes : List ℕ
+  pub content_is : content ≡ Some bytes
+  pub measured : IsMeasured m bytes
+  pub holds : HoldsFile h file (4096 * m.blocks) m bytes
+
+pub record FitsApk (h : Held) (content : Option (List ℕ)) (disk : ℕ) (apk idsig : List ℕ) (how : How) : Type 0 where
+  pub bytes : List ℕ
+  pub content_is : content ≡ Some bytes
+  pub measure : Measure
+  pub measured : IsMeasured measure bytes
+  pub holds : HoldsApk h disk apk idsig how measure bytes
+
+-- what is held has a measured content at a `file` line
+pub record FitsFile (h : Held) (number : ℕ) (digest : Digest) : Type 0 where
+  pub bytes : List ℕ
+  pub salt : List ℕ
+  pub holds : HoldsReadOnly h number digest bytes salt
+
+-- What is held has what each line of a plan needs, and the world each item's content.
+pub record Fits (lines : List PlanLine) (world : World) (h : Held) : Type 0 where
+  pub blobs : (k file : ℕ) (m : Measure) → item_line lines k ≡ Some (line.Blob file m) → FitsBlob h (world k) file m
+  pub apks : (k disk : ℕ) (apk idsig : List ℕ) (how : How) → item_line lines k ≡ Some (line.Apk disk apk idsig how)
+      → FitsApk h (world k) disk apk idsig how
+  pub files : (k : ℕ) (name : List ℕ) (file : ℕ) (digest : Digest) → slice_get lines k ≡ Some (line.File name file digest)
+      → FitsFile h file digest
+
 -- ---- what was heard of it
 
 -- a call asks for this disk
@@ -61,25 +116,15 @@ IsOfDisk disk other = ⊥
 abbrev pub AreTrue : Held → ℕ → Exchanges → Type 0
 AreTrue h disk own = (call : Call) (said : Said) → IsIn call said own → IsOfDisk disk call → serve h call [] ≡ Some (said, h)
 
--- ---- the line of an item
-
-abbrev pub makes_item : PlanLine → Bool
-makes_item (line.Blob file m) = true
-makes_item (line.Apk disk apk idsig how) = true
-makes_item other = false
-
-abbrev pub item_line : List PlanLine → ℕ → Option PlanLine
-item_line lines k = slice_get (filter makes_item lines) k
-
 -- A read of the device of an `apk` line of a plan in the grammar, in a world that meets the premises, and where what is held has
--- the item's content at the line: if the answers of boot for the line's disk and those of the read are what is held, and the
--- count of failures doesn't rise in the read, the read has its defined reply. So a reply 5 comes only where the count rose, or
--- where one of these answers, those of boot among them, wasn't what the disk holds.
+-- the item's content at the line: if the answers of boot for the line's disk and those of the read are what is held, and no call
+-- of the read fails, the read has its defined reply. So a reply 5 comes only where a call failed, or where one of these answers,
+-- those of boot among them, wasn't what the disk holds.
 abbrev pub ApkReadsAreServed : Type 0
 ApkReadsAreServed = (lines : List PlanLine) (booted : Exchanges) (items : List Device) (files : List MeasuredFile) (world : World) (old : Moment) (turn : Turn) (new : Moment)
     (h : Held) (r : ItemRead) (content : List ℕ) (disk : ℕ) (apk idsig : List ℕ) (how : How) (m : Measure)
     → Opens lines booted items files → AreServed lines → Step items world old turn new → request_of turn.frame ≡ read_of r
     → item_line lines r.item ≡ Some (line.Apk disk apk idsig how) → world r.item ≡ Some content
     → IsWorld items world new.heard → HoldsApk h disk apk idsig how m content
-    → AreTrue h disk booted → AreTrue h disk (heard_of turn.own) → (Rose old.told.faults new.told.faults → ⊥)
+    → AreTrue h disk booted → AreTrue h disk (heard_of turn.own) → failures_of turn.own ≡ 0
     → IsDefined r content new.told.scarce turn.sent turn.cause

@@ -1,6 +1,13 @@
 // Laws of a boot and the reads behind it.
 ghost use Rattle.guest_laws.specs.Fitting.{ApkReadsAreServed};
-ghost use Rattle.guest_laws.specs.Sessions.{SessionsAreServed};
+ghost use Rattle.guest_laws.specs.Passing.{BootsPass};
+ghost use Rattle.guest_laws.specs.Sessions.{BootsAreServed, SessionsAreServed};
+
+/// Over an honest host that holds what each line of the plan needs, boot opens all lines, or there was no memory; and what is
+/// held stays. Its contract is the law; it does nothing.
+pub fn boots_pass()
+    ensures { BootsPass }
+{}
 
 /// Where what the host holds has an APK's content at an `apk` line, and the answers of boot for the line's disk and those of a
 /// read of its device are what is held, the read has its defined reply, or want of memory, unless a call fails in it. Its
@@ -9,9 +16,14 @@ pub fn apk_reads_are_served()
     ensures { ApkReadsAreServed }
 {}
 
-/// A session of `serve` in which no call failed, over a host that held at first each content of a world at the line of its item:
-/// each read of such an item has its defined reply, or want of memory, and none has a cause. Its contract is the law; it does
-/// nothing.
+/// Over the host that a store list makes, where it holds what each line of the plan needs, boot passes: no session of `serve`
+/// ends with the status of a line that was not opened. Its contract is the law; it does nothing.
+pub fn boots_are_served()
+    ensures { BootsAreServed }
+{}
+
+/// A session of `serve`, over a host that holds what each line of the plan needs: each read of an item has its defined reply,
+/// or want of memory, and none has a cause. Its contract is the law; it does nothing.
 pub fn sessions_are_served()
     ensures { SessionsAreServed }
 {}

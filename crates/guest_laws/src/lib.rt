@@ -1,9 +1,10 @@
-//! Laws over a boot and the reads behind it. `apk_reads_are_served`: where what the host holds has an APK's content at a line of
-//! the plan, and each of its answers is what it holds, the read has its defined reply. `sessions_are_served`: over the host that a
-//! store list makes, in a session where no call failed, each read of a content that the host holds has its defined reply. There is
-//! no code here but the laws, which are functions that do nothing.
+//! Laws over a boot and the reads behind it. `boots_pass`: over an honest host that holds what each line of a plan needs, boot
+//! opens all lines, or there was no memory. `boots_are_served` and `sessions_are_served`: over the host that a store list makes,
+//! where it holds what the plan needs, boot passes, and each read of an item has its defined reply. `apk_reads_are_served`: where
+//! each answer for one disk is what the host holds, a read of the device on it has its defined reply. There is no code here but
+//! the laws, which are functions that do nothing.
 #![tactic(auto)]
 
 pub mod laws;
 
-pub use crate::laws::{apk_reads_are_served, sessions_are_served};
+pub use crate::laws::{apk_reads_are_served, boots_are_served, boots_pass, sessions_are_served};

@@ -1,5 +1,5 @@
 -- A device that is held: the answer to the call for a page is as long as asked, and holds the content's page.
-use Rattle.std.proofs.Common.{◌≡◌, ℕ, zero, suc, ◌+◌, ◌-◌, ◌*◌, ◌/◌, ◌%◌, ◌<◌, ◌≤◌, min, List, length, take, drop, refl, ap, sym, ◌∙◌, arith, append-nil, Some, true, false}
+use Rattle.std.proofs.Common.{◌≡◌, ℕ, zero, suc, [], ◌+◌, ◌-◌, ◌*◌, ◌/◌, ◌%◌, ◌<◌, ◌≤◌, min, List, length, take, drop, refl, ap, sym, ◌∙◌, arith, append-nil, Some, true, false}
 use Rattle.std.specs.Prelude.{◌==◌, if◌then◌else◌, nat_le}
 use Rattle.std.proofs.lemmas.Bool.Decides.{nat_tests}
 use Rattle.std.proofs.lemmas.List.{length-take, length-drop, take_all, take-take, drop-take, drop-drop}
@@ -12,7 +12,7 @@ use Rattle.sha_tree.specs.Measured.{IsMeasured}
 use Rattle.sha_tree.specs.Tree.{padded, block, block_count, page, pages_at, place, top, tree_pages, stored_tree}
 use Rattle.sha_tree.proofs.Levels.{pages_at-zero, place-inside}
 use Rattle.sha_tree.proofs.Pages.{length-page}
-use Rattle.sha_tree.proofs.Stored.{page-stored}
+use Rattle.sha_tree.proofs.Stored.{page-stored, length-stored}
 use Rattle.verity_path.specs.Calls.{call_for, asked_for, piece_for, tree_byte}
 use Rattle.verity_path.specs.declared.walk.Layout.{Layout}
 use Rattle.verity_path.specs.declared.walk.Layout.TheVariants.{File as OnFile, Parts as InParts}
@@ -55,6 +55,14 @@ sectors_hold k small = elim (k == 0) as (λ v. (k == 0) ≡ v → k + 4096 ≤ 5
 
 le_of : (a b : ℕ) → nat_le a b ≡ true → a ≤ b
 le_of a b e = grind (arith, nat_tests)
+
+test_of : (a b : ℕ) → a ≤ b → nat_le a b ≡ true
+test_of a b le = grind (arith, nat_tests)
+
+-- the sectors that are asked for lie on a disk of whole sectors which has the page
+sectors_end : (at len : ℕ) → at + 4096 ≤ len → len % 512 ≡ 0 → 512 * (at / 512 + (if at % 512 == 0 then 8 else 9)) ≤ len
+sectors_end at len le whole = elim (at % 512 == 0) as (λ v. (at % 512 == 0) ≡ v → 512 * (at / 512 + (if v then 8 else 9)) ≤ len)
+    [ true ↦ λ e. omega (arith, le) | false ↦ λ e. (let some : 0 < at % 512 = grind (arith, nat_tests) in omega (arith, le, whole, some)) ] refl
 
 -- the bytes of sectors that are there
 length-sectors : (xs : List ℕ) (sector count : ℕ) → 512 * (sector + count) ≤ length xs → length (take (512 * count) (drop (512 * sector) xs)) ≡ 512 * count
@@ -152,6 +160,52 @@ module _ (h : Held) (m : Measure) (content : List ℕ) (measured : IsMeasured m 
         piece = rw (not_zero level) (page_within holds.disk.bytes (512 * (at / 512)) (512 * count) (at % 512) (sectors_hold (at % 512) (omega arith))
             ∙ ap (λ k. take 4096 (drop k holds.disk.bytes)) back ∙ stored_page disk first tree (suc level) i holds (omega arith) low within);
       }
+
+  -- ---- the call for a page can be served
+
+  sectors_serve : (disk sector count : ℕ) (d : Disk) → h.disk disk ≡ Some d → 512 * (sector + count) ≤ length d.bytes
+      → serve h (BlockRead disk sector count) [] ≡ Some (Bytes (take (512 * count) (drop (512 * sector) d.bytes)), h)
+  unfolding serve
+  sectors_serve disk sector count d there le = rw (there, test_of _ _ le) refl
+
+  file_serves : (file at want : ℕ) (f : File) → h.file file ≡ Some f → serve h (FileRead file at want) [] ≡ Some (Bytes (take want (drop at f.bytes)), h)
+  unfolding serve
+  file_serves file at want f there = rw there refl
+
+  tree_serves : (file level index : ℕ) (f : File) → h.file file ≡ Some f → serve h (TreeRead file level index) [] ≡ Some (Bytes (take 4096 (f.tree level index)), h)
+  unfolding serve
+  tree_serves file level index f there = rw there refl
+
+  -- the device's blocks and its tree lie on the disk
+  blocks_inside : (disk first tree : ℕ) → (holds : HoldsParts h disk first tree m content) → 0 < m.blocks → 512 * first + 4096 * m.blocks ≤ length holds.disk.bytes
+  blocks_inside disk first tree holds some =
+      omega (arith, some, measured.size, ap length holds.blocks, length-take (4096 * m.blocks) (drop (512 * first) holds.disk.bytes), length-drop (512 * first) holds.disk.bytes)
+
+  tree_within : (disk first tree : ℕ) → (holds : HoldsParts h disk first tree m content) → 0 < tree_pages m.blocks → tree + 4096 * tree_pages m.blocks ≤ length holds.disk.bytes
+  tree_within disk first tree holds some =
+      let count : block_count (length content) ≡ m.blocks = rw measured.size (omega arith) in
+      let len : length (stored_tree content m.salt) ≡ 4096 * tree_pages m.blocks = length-stored content m.salt ∙ ap (λ (n : ℕ). 4096 * tree_pages n) count in
+      omega (arith, some, len, ap length holds.tree, length-take (4096 * tree_pages m.blocks) (drop tree holds.disk.bytes), length-drop tree holds.disk.bytes)
+
+  pub page_serves : (layout : Layout) (level i : ℕ) → HoldsAt h layout m content → level ≤ top m.blocks → i < pages_at m.blocks level
+      → (said : Said) × (serve h (call_for layout m.blocks level i) [] ≡ Some (said, h))
+  page_serves (OnFile file size) zero i holds low within =
+      (Bytes (take (min (size - 4096 * i) 4096) (drop (4096 * i) holds.file.bytes)), file_serves file (4096 * i) (min (size - 4096 * i) 4096) holds.file holds.there)
+  page_serves (OnFile file size) (suc level) i holds low within =
+      (Bytes (take 4096 (holds.file.tree (suc level) i)), rw (not_zero level) (tree_serves file (suc level) i holds.file holds.there))
+  page_serves (InParts disk first tree) zero i holds low within =
+      let inside : i < m.blocks = omega (arith, within, pages_at-zero m.blocks) in
+      let end = blocks_inside disk first tree holds (omega (arith, inside)) in
+      (Bytes (take (512 * 8) (drop (512 * (first + 8 * i)) holds.disk.bytes)), sectors_serve disk (first + 8 * i) 8 holds.disk holds.there (omega (arith, inside, end)))
+  page_serves (InParts disk first tree) (suc level) i holds low within =
+      let at : ℕ = tree_byte tree m.blocks (suc level) i in
+      let count : ℕ = if at % 512 == 0 then 8 else 9 in
+      let place_in = place-inside m.blocks (suc level) i limit (omega arith) low within in
+      let end = tree_within disk first tree holds (omega (arith, place_in)) in
+      let le : at + 4096 ≤ length holds.disk.bytes = omega (arith, place_in, end) in (
+        Bytes (take (512 * count) (drop (512 * (at / 512)) holds.disk.bytes)),
+        rw (not_zero level) (sectors_serve disk (at / 512) count holds.disk holds.there (sectors_end at (length holds.disk.bytes) le holds.whole)),
+      )
 
   -- the answer to the call for a page of the device
   pub page_held : (layout : Layout) (level i : ℕ) → HoldsAt h layout m content → level ≤ top m.blocks → i < pages_at m.blocks level

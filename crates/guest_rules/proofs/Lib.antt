@@ -5,3 +5,4 @@ pub mod Devices
 pub mod Serving
 pub mod Requests
 pub mod Exact
+pub mod Calm

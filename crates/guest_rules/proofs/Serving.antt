@@ -6,9 +6,9 @@ use Rattle.host_traits.specs.declared.calls.Call.{Call}
 use Rattle.host_traits.specs.declared.calls.Said.{Said}
 use Rattle.host_traits.specs.declared.calls.Said.TheVariants.{Bytes}
 use Rattle.host_traits.specs.Held.{Held, serve}
-use Rattle.host_traits.specs.Told.{Rose, HeldAfter, heard_of, kind_of, kind_bytes}
-use Rattle.host_traits.specs.Did.{IsIn, Each, reads, Trace, IsShort}
-use Rattle.host_traits.proofs.Doing.{each_heard, each_so}
+use Rattle.host_traits.specs.Told.{heard_of, failures_of, kind_of, kind_bytes}
+use Rattle.host_traits.specs.Did.{IsIn, reads, Trace, IsShort}
+use Rattle.host_traits.proofs.Doing.{each_heard}
 use Rattle.session_frames.specs.Replies.{Sent}
 use Rattle.sha_tree.specs.Tree.{ancestor}
 use Rattle.sha_tree.specs.Measured.{IsMeasured}
@@ -27,12 +27,12 @@ use Rattle.verity_path.proofs.Asking.{kind_asked}
 use Rattle.verity_path.proofs.Blaming.{mismatch_lies}
 use Rattle.guest_rules.specs.Machine.{World, State, Moment, Turn, ItemRead, Request, read_of, request_of, IsItem, size_of}
 use Rattle.guest_rules.specs.ItemRow.{IsForItem, ItemRow, no_item, too_large, served, blamed, no_memory}
-use Rattle.guest_rules.specs.Step.{Step, IsFor, Row}
+use Rattle.guest_rules.specs.Step.{Step, IsFor, Row, trace}
 use Rattle.guest_rules.specs.Run.{IsWorld}
-use Rattle.guest_rules.specs.Faithful.{HoldsDevice, IsDefined, over_limit, whole, no_room, ReadsAreServed}
+use Rattle.guest_rules.specs.Faithful.{HoldsDevice, IsDefined, over_limit, whole, no_room}
 use Rattle.guest_rules.proofs.Standing.{item_hashed}
-use Rattle.guest_rules.proofs.Holding.{IsReading, AreServed, reads_keep}
-use Rattle.guest_rules.proofs.Devices.{page_reads, page_held}
+use Rattle.guest_rules.proofs.Holding.{AreServed}
+use Rattle.guest_rules.proofs.Devices.{page_held}
 
 bytes_is : (a b : List ℕ) → Bytes a ≡ Bytes b → a ≡ b
 bytes_is a b e = cc
@@ -84,21 +84,21 @@ module _ (items : List Device) (world : World) (t : Trace) (h : Held) (r : ItemR
       same_size _ _ (sym s.asks ∙ ap kind_of f.path.call_is ∙ kind_asked it.layout it.measure.blocks level index) in
       absurd (omega (arith, asks, page.len, ap length bytes, s.got_is, s.short))
 
-  module _ (calm : Rose t.before t.after → ⊥) where
+  module _ (calm : t.failed ≡ 0) where
     not_blamed : (cause : Cause) → IsReadBlame it.layout it.measure (IsForItem it r) t cause → ⊥
     not_blamed (OfMismatch x) blame = not_mismatch x blame
     not_blamed (Short asked got) blame = not_short asked got blame
-    not_blamed (Failed faults) blame = calm blame.rose
+    not_blamed (Failed faults) blame = let failed = blame.failed in absurd (omega (arith, calm, failed))
 
     defined : (sent : Sent) (cause : Option Cause) → ItemRow items world t r sent cause → IsDefined r content t.scarce sent cause
-    defined sent cause (no_item absent own) = absurd (omega (arith, slice_get_within items r.item it at))
-    defined sent cause (too_large there large own) = over_limit large
-    defined sent cause (served other bytes there fits shown) =
+    defined sent cause (no_item absent none own) = absurd (omega (arith, slice_get_within items r.item it at))
+    defined sent cause (too_large there large none own) = over_limit large
+    defined sent cause (served other bytes there fits none shown) =
         rw (← slice_is (world r.item) content t other r bytes is shown) (whole fits)
     defined sent cause (blamed other c there fits blame) =
         let same : other ≡ it = same_item other it (sym there ∙ at) in
         absurd (not_blamed c (subst (λ (z : Device). IsReadBlame z.layout z.measure (IsForItem z r) t c) same blame))
-    defined sent cause (no_memory there fits scarce) = no_room fits scarce
+    defined sent cause (no_memory there fits scarce) = no_room fits scarce.scarce
 
 -- the item's row of a read
 row_of : (items : List Device) (world : World) (t : Trace) (request : Request) (old new : State) (sent : Sent) (cause : Option Cause) (r : ItemRead) → request ≡ read_of r
@@ -115,17 +115,8 @@ calls_of items request r it call e at f =
 -- the reply to a read whose answers are what is held
 pub defined_over : (items : List Device) (world : World) (old : Moment) (turn : Turn) (new : Moment) (h : Held) (r : ItemRead) (it : Device) (content : List ℕ)
     → Step items world old turn new → request_of turn.frame ≡ read_of r → slice_get items r.item ≡ Some it → IsItem it → world r.item ≡ Some content
-    → IsWorld items world new.heard → AreServed h (heard_of turn.own) → HoldsDevice h it content → (Rose old.told.faults new.told.faults → ⊥) → IsDefined r content new.told.scarce turn.sent turn.cause
+    → IsWorld items world new.heard → AreServed h (heard_of turn.own) → HoldsDevice h it content → failures_of turn.own ≡ 0 → IsDefined r content new.told.scarce turn.sent turn.cause
 defined_over items world old turn new h r it content step request at item is w truly holds calm =
     let for : (call : Call) (said : Said) → IsIn call said (heard_of turn.own) → IsForItem it r call = λ call said i.
     calls_of items _ r it call request at (each_heard (reads (IsFor items (request_of turn.frame))) turn.own step.calls call said i).1.0 in
-    defined items world _ h r it content at item is w truly holds for calm turn.sent turn.cause (row_of items world _ _ old.state new.state turn.sent turn.cause r request step.row)
-
-pub all_served : ReadsAreServed
-all_served items world old turn new h r it content step request at item is w told holds calm =
-    let reading : (call : Call) → IsFor items (request_of turn.frame) call → IsReading call = λ call i.
-    let f = calls_of items _ r it call request at i in
-    rw f.path.call_is (page_reads it.layout it.measure.blocks f.path.level (ancestor f.block f.path.level)) in
-    let after = subst (λ o. HeldAfter old.told.honest o turn.own new.told.held) told step.talked.held in
-    let keeps = reads_keep old.told.honest turn.own h after.0 after.2 (each_so (reads (IsFor items (request_of turn.frame))) (reads IsReading) turn.own (λ call given p. (reading call p.0, p.1)) step.calls) in
-    (defined_over items world old turn new h r it content step request at item is w keeps.1 holds calm, after.1 ∙ ap Some keeps.0)
+    defined items world (trace old turn new) h r it content at item is w truly holds for calm turn.sent turn.cause (row_of items world (trace old turn new) _ old.state new.state turn.sent turn.cause r request step.row)

@@ -41,10 +41,10 @@ by_content (Some content) heard m size offset len bytes shown is = is content re
 module _ (items : List Device) (world : World) where
   item_in : (t : Trace) (r : ItemRead) (sent : Sent) (cause : Option Cause) → IsWorld items world t.heard
       → ItemRow items nowhere t r sent cause → ItemRow items world t r sent cause
-  item_in t r sent cause w (no_item absent own) = no_item absent own
-  item_in t r sent cause w (too_large there large own) = too_large there large own
-  item_in t r sent cause w (served it bytes at fits shown) =
-      served it bytes at fits (by_content (world r.item) t.heard it.measure (size_of it) r.offset r.size bytes shown (λ content is.
+  item_in t r sent cause w (no_item absent none own) = no_item absent none own
+  item_in t r sent cause w (too_large there large none own) = too_large there large none own
+  item_in t r sent cause w (served it bytes at fits none shown) =
+      served it bytes at fits none (by_content (world r.item) t.heard it.measure (size_of it) r.offset r.size bytes shown (λ content is.
       let measured = w.measured r.item it content at is in
       let apart : NoClash (IsHashed t.heard content it.measure.salt) = λ x y hx hy. w.no_clash x y (item_hashed items world t.heard r.item it content at is x hx) (item_hashed items world t.heard r.item it content at is y hy) in
       cut_content it.measure t.heard content (size_of it) r.offset r.size bytes (measured_tree it.measure content measured) apart (sym measured.size) shown))
@@ -74,6 +74,7 @@ module _ (items : List Device) (world : World) where
           heard = r.2.heard;
           calls = r.2.calls;
           few = r.2.few;
+          stops = r.2.stops;
           row = row_in _ (request_of t.frame) old.state r.0.state t.sent t.cause w_mid r.2.row;
         },
         run_in r.0 turns new w r.3,

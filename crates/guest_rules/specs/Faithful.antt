@@ -1,7 +1,7 @@
 -- What a read of an item is answered where the host holds the item and no call fails.
-use Rattle.std.specs.Prelude.{Bool, true, ◌≡◌, ℕ, ◌^◌, ◌*◌, ◌<◌, ◌≤◌, List, length, take, drop, slice_get, Option, Some, None}
+use Rattle.std.specs.Prelude.{Bool, true, ◌≡◌, ◌⊎◌, ℕ, ◌^◌, ◌*◌, ◌%◌, ◌<◌, ◌≤◌, List, length, take, drop, slice_get, Option, Some, None}
 use Rattle.host_traits.specs.Held.{Held, Disk, File}
-use Rattle.host_traits.specs.Told.{Told, Exchanges, Rose, heard_size}
+use Rattle.host_traits.specs.Told.{Told, Exchanges, Rose, failures_of, heard_size}
 use Rattle.session_frames.specs.Frames.{Framed}
 use Rattle.session_frames.specs.Replies.{Sent, sent_bytes, sent_code}
 use Rattle.sha_tree.specs.declared.measure.Measure.{Measure}
@@ -22,10 +22,11 @@ pub record HoldsFile (h : Held) (number size : ℕ) (m : Measure) (content : Lis
   pub bytes : file.bytes ≡ content
   pub tree : (level i : ℕ) → 0 < level → level ≤ top m.blocks → i < pages_at m.blocks level → file.tree level i ≡ page content m.salt level i
 
--- a disk that is held has a content's blocks from a sector on, and its stored tree from a byte on
+-- a disk that is held has whole sectors, a content's blocks from a sector on, and its stored tree from a byte on
 pub record HoldsParts (h : Held) (number first at : ℕ) (m : Measure) (content : List ℕ) : Type 0 where
   pub disk : Disk
   pub there : h.disk number ≡ Some disk
+  pub whole : length disk.bytes % 512 ≡ 0
   pub blocks : take (4096 * m.blocks) (drop (512 * first) disk.bytes) ≡ content
   pub tree : take (4096 * tree_pages m.blocks) (drop at disk.bytes) ≡ stored_tree content m.salt
 
@@ -45,18 +46,19 @@ pub data IsDefined (r : ItemRead) (content : List ℕ) (scarce : Bool) : Sent �
   whole : r.size ≤ 131072 → IsDefined r content scarce (sent_bytes (take r.size (drop r.offset content))) None
   no_room : r.size ≤ 131072 → scarce ≡ true → IsDefined r content scarce (sent_code 1 12) None
 
--- Over a faithful host that holds an item as the world has it, a read of the item in which the count of failures doesn't
--- rise has its defined reply, and what is held stays.
+-- Over a faithful host that holds an item as the world has it, a read of the item in which no call fails has its defined reply,
+-- and over an honest one each read of it has; and what is held stays.
 abbrev pub ReadsAreServed : Type 0
 ReadsAreServed = (items : List Device) (world : World) (old : Moment) (turn : Turn) (new : Moment) (h : Held) (r : ItemRead) (it : Device) (content : List ℕ)
     → Step items world old turn new → request_of turn.frame ≡ read_of r → slice_get items r.item ≡ Some it → IsItem it → world r.item ≡ Some content
-    → IsWorld items world new.heard → old.told.held ≡ Some h → HoldsDevice h it content → (Rose old.told.faults new.told.faults → ⊥)
+    → IsWorld items world new.heard → old.told.held ≡ Some h → HoldsDevice h it content
+    → (failures_of turn.own ≡ 0) ⊎ (old.told.honest ≡ true)
     → IsDefined r content new.told.scarce turn.sent turn.cause × (new.told.held ≡ Some h)
 
 -- The same of what a host tells before a read of an item that is there and after it: in each world that meets the premises where
--- all of this was heard, and where the host held the item before.
+-- all of this was heard, and where the host held the item before, and is honest or its count of failures doesn't rise.
 abbrev pub ReadIsServed : List Device → Told → Told → Framed → Sent → Option Cause → Type 0
 ReadIsServed items old new frame sent cause = (world : World) (heard now : Exchanges) (h : Held) (r : ItemRead) (it : Device) (content : List ℕ)
     → old.heard ≡ Some heard → heard_size heard < 2 ^ 30 → new.heard ≡ Some now → old.held ≡ Some h → request_of frame ≡ read_of r → slice_get items r.item ≡ Some it → IsItem it → world r.item ≡ Some content
-    → IsWorld items world now → HoldsDevice h it content → (Rose old.faults new.faults → ⊥)
+    → IsWorld items world now → HoldsDevice h it content → (Rose old.faults new.faults → ⊥) ⊎ (old.honest ≡ true)
     → IsDefined r content new.scarce sent cause × (new.held ≡ Some h)

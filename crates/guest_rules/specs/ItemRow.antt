@@ -1,7 +1,7 @@
 -- The rows of a read of a measured item: when each reply comes.
-use Rattle.std.specs.Prelude.{true, ◌≡◌, ℕ, ◌<◌, ◌≤◌, List, [], length, slice_get, Option, Some, None}
+use Rattle.std.specs.Prelude.{◌≡◌, ℕ, ◌<◌, ◌≤◌, List, [], length, slice_get, Option, Some, None}
 use Rattle.host_traits.specs.declared.calls.Call.{Call}
-use Rattle.host_traits.specs.Did.{Trace}
+use Rattle.host_traits.specs.Did.{Trace, IsScarce}
 use Rattle.session_frames.specs.Replies.{Sent, sent_bytes, sent_code}
 use Rattle.verity_path.specs.declared.device.Cause.{Cause}
 use Rattle.verity_path.specs.declared.device.Device.{Device}
@@ -13,12 +13,12 @@ abbrev pub IsForItem : Device → ItemRead → Call → Type 0
 IsForItem it r call = IsForRead it.layout it.measure (size_of it) r.offset r.size call
 
 -- 2 where there is no such item; else 22 where the size is above 131,072; else the bytes with code 0, or 5 with its cause in
--- the answers to the read's own calls, or 12 for want of memory
+-- the answers to the read's own calls, or 12 for want of memory. A call failed only where the cause is one, and then that one.
 pub data ItemRow (items : List Device) (world : World) (t : Trace) (r : ItemRead) : Sent → Option Cause → Type 0 where
-  no_item : length items ≤ r.item → t.own ≡ [] → ItemRow items world t r (sent_code 1 2) None
-  too_large : r.item < length items → 131072 < r.size → t.own ≡ [] → ItemRow items world t r (sent_code 1 22) None
-  served : (it : Device) (bytes : List ℕ) → slice_get items r.item ≡ Some it → r.size ≤ 131072 → IsSlice (world r.item) t.heard it.measure (size_of it) r.offset r.size bytes
+  no_item : length items ≤ r.item → t.failed ≡ 0 → t.own ≡ [] → ItemRow items world t r (sent_code 1 2) None
+  too_large : r.item < length items → 131072 < r.size → t.failed ≡ 0 → t.own ≡ [] → ItemRow items world t r (sent_code 1 22) None
+  served : (it : Device) (bytes : List ℕ) → slice_get items r.item ≡ Some it → r.size ≤ 131072 → t.failed ≡ 0 → IsSlice (world r.item) t.heard it.measure (size_of it) r.offset r.size bytes
       → ItemRow items world t r (sent_bytes bytes) None
   blamed : (it : Device) (cause : Cause) → slice_get items r.item ≡ Some it → r.size ≤ 131072 → IsReadBlame it.layout it.measure (IsForItem it r) t cause
       → ItemRow items world t r (sent_code 1 5) (Some cause)
-  no_memory : r.item < length items → r.size ≤ 131072 → t.scarce ≡ true → ItemRow items world t r (sent_code 1 12) None
+  no_memory : r.item < length items → r.size ≤ 131072 → IsScarce t → ItemRow items world t r (sent_code 1 12) None

@@ -1,8 +1,8 @@
 -- One request of a run.
 use Rattle.std.specs.Prelude.{◌≡◌, ℕ, ◌≤◌, List, ◌++◌, length, slice_get, Option, Some, None}
 use Rattle.host_traits.specs.declared.calls.Call.{Call}
-use Rattle.host_traits.specs.Told.{Told, Talked, Made, Exchanges, heard_of}
-use Rattle.host_traits.specs.Did.{Trace, Each, reads}
+use Rattle.host_traits.specs.Told.{Told, Talked, Made, Exchanges, heard_of, failures_of}
+use Rattle.host_traits.specs.Did.{Trace, Each, reads, StopsAtFailure}
 use Rattle.session_frames.specs.Frames.{Framed}
 use Rattle.session_frames.specs.Replies.{Sent}
 use Rattle.verity_path.specs.declared.device.Cause.{Cause}
@@ -30,16 +30,18 @@ abbrev pub Row : List Device → World → Trace → Request → State → State
 Row items world t (read_of r) old new sent cause = (new ≡ old) × ItemRow items world t r sent cause
 Row items world t unbuilt old new sent cause = ⊥
 
--- the answers to a turn's own calls, after all that was heard before
+-- the answers to a turn's own calls, after all that was heard before, and how many of its calls failed
 abbrev pub trace : Moment → Turn → Moment → Trace
-trace old turn new = record { heard = new.heard; own = heard_of turn.own; before = old.told.faults; after = new.told.faults; last_failed = new.told.last_failed; scarce = new.told.scarce }
+trace old turn new = record { heard = new.heard; own = heard_of turn.own; failed = failures_of turn.own; before = old.told.faults; after = new.told.faults; last_failed = new.told.last_failed; scarce = new.told.scarce }
 
--- one request, from a moment to the next: these calls were made, and no other; each belongs to the request; and what came of them
+-- one request, from a moment to the next: these calls were made, and no other; each belongs to the request, and none follows one
+-- that failed; and what came of them
 pub record Step (items : List Device) (world : World) (old : Moment) (turn : Turn) (new : Moment) : Type 0 where
   pub talked : Talked old.told new.told turn.own
   pub heard : new.heard ≡ old.heard ++ heard_of turn.own
   pub calls : Each (reads (IsFor items (request_of turn.frame))) turn.own
   pub few : length turn.own ≤ most_for items (request_of turn.frame)
+  pub stops : StopsAtFailure turn.own
   pub row : Row items world (trace old turn new) (request_of turn.frame) old.state new.state turn.sent turn.cause
 
 -- a request was answered by its own calls

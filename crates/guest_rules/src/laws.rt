@@ -8,8 +8,9 @@ pub fn runs_stand_in_each_world()
     ensures { RunsStand }
 {}
 
-/// Over a faithful host that holds an item as the world has it, a read of the item in which the count of failures doesn't rise
-/// has its defined reply, or want of memory; and what is held stays. Its contract is the law; it does nothing.
+/// Over a faithful host that holds an item as the world has it, a read of the item in which no call fails has its defined reply,
+/// or want of memory, and over an honest host each read of it has; and what is held stays. Its contract is the law; it does
+/// nothing.
 pub fn reads_are_served()
     ensures { ReadsAreServed }
 {}

@@ -19,6 +19,6 @@ loop-index-preserved g c = record {
 
 pub loop-index-init : goal.loop-index-init
 loop-index-init g c = rw (c.new.ensures.items, c.new-2.ensures.items, c.new-3.ensures.items) (record {
-  booted = did_none (IsForLines c.args.lines.now) _ _ _ (refl, refl);
+  booted = did_none (IsForLines c.args.lines.now) _ _ _ (refl, (refl, refl));
   items = λ k it at. cc;
 })

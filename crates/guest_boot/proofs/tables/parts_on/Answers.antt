@@ -7,7 +7,8 @@ returns-in-Some-clause-did g c =
     (rw c.as_slice.ensures.value at c.in-Some.ensures) c.parts_in.ensures.named
 
 pub returns-in-Err-push-clause-did : goal.returns-in-Err-push-clause-did
-returns-in-Err-push-clause-did g c = read_memory c.args.tables.now.items c.args.disk c.args.apk.now c.args.idsig.now _ _ _ c.push.new.self.items c.in-Ok.ensures
+returns-in-Err-push-clause-did g c =
+    read_memory c.args.tables.now.items c.args.disk c.args.apk.now c.args.idsig.now c.in-Ok.table _ _ c.push.new.self.items (rw c.as_slice.ensures.value at c.in_default.ensures) c.in-Ok.ensures
 
 pub returns-clause-did : goal.returns-clause-did
 returns-clause-did g c =

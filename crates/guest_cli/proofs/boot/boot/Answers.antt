@@ -15,7 +15,7 @@ open_lines-requires-clause-numbers g c = rw (c.deref-2.ensures.value, c.deref.en
 pub returns-in-Err-open_lines-clause-booted : goal.returns-in-Err-open_lines-clause-booted
 returns-in-Err-open_lines-clause-booted g c =
     let d = rw (c.deref.ensures.value, c.deref-2.ensures.value) at c.in-Err-open_lines.ensures.booted in
-    record { own = d.own; talked = d.talked; calls = d.calls; few = d.few; outcome = inr d.outcome }
+    record { own = d.own; talked = d.talked; calls = d.calls; few = d.few; stops = d.stops; outcome = inr d.outcome }
 
 pub new-requires : goal.new-requires
 new-requires g c = λ k it at. let i = c.in-Ok-open_lines.ensures.items k it at in record { least = i.least; most = i.most; suits = i.suits }
@@ -23,4 +23,4 @@ new-requires g c = λ k it at. let i = c.in-Ok-open_lines.ensures.items k it at 
 pub returns-clause-booted : goal.returns-clause-booted
 returns-clause-booted g c =
     let d = rw (c.deref.ensures.value, c.deref-2.ensures.value) at c.in-Ok-open_lines.ensures.booted in
-    record { own = d.own; talked = d.talked; calls = d.calls; few = d.few; outcome = rw c.new.ensures (record { tables = d.outcome.0; boots = d.outcome.1 }) }
+    record { own = d.own; talked = d.talked; calls = d.calls; few = d.few; stops = d.stops; outcome = rw c.new.ensures (d.outcome.0, record { tables = d.outcome.1; boots = d.outcome.2 }) }

@@ -17,5 +17,5 @@ returns-clause-played g c = inr (inr (record {
   finish = tape_told c.session-ended.new.host;
   ended = c.session-ended.result;
   status_is = c.made_status.ensures;
-  session = tape_session c.in-Ok.machine.engine.items _ _ c.args.inputs.tape c.in-Ok.ensures.booted.own c.session-ended.new.engine.state (tape_told c.boot.new.host) (tape_told c.session-ended.new.host) _ _ _ _ _ _ c.session-ended.result c.in-Ok.ensures.state c.requires.fresh c.in-Ok.ensures.booted.talked c.session-ended.ensures.run;
+  session = tape_session c.in-Ok.machine.engine.items _ _ c.args.inputs.tape c.in-Ok.ensures.booted.own c.session-ended.new.engine.state (tape_told c.boot.new.host) (tape_told c.session-ended.new.host) _ _ c.session-ended.result c.in-Ok.ensures.state c.requires.fresh c.in-Ok.ensures.booted.talked c.session-ended.ensures.run;
 }))

@@ -40,3 +40,10 @@ loop-channel-preserved g c =
       outs = omega (arith, c.loop-channel.invariant.outs, c.in-Ok.ensures.out);
       logs = omega (arith, c.loop-channel.invariant.logs, c.in-Ok.ensures.log);
     }
+
+pub returns-then-channel-ne1-clause-held : goal.returns-then-channel-ne1-clause-held
+returns-then-channel-ne1-clause-held g c =
+    let so = c.loop-channel.invariant.answered in
+    let f = c.in-Frame.ensures in
+    let few = few_heard (g.H.Host.told c.loop-channel.host) c.heard_bytes.result c.heard_bytes.ensures c.if-heard_bytes-ge-LIMIT.false in
+    (so.0, so.1, (few, record { channel = c.in-Frame.channel; payload = c.in-Frame.payload.now; rest = f.0; fronts = f.1; other = c.if-channel-ne1.true }))

@@ -4,7 +4,7 @@ use Rattle.std.specs.Io.KnownBytes.{Consumes}
 use Rattle.session_frames.proofs.Sessions.{so_far_not}
 use Rattle.session_frames.proofs.Streams.{nothing_is_cut}
 use Rattle.guest_rules.proofs.Runs.{ran_none}
-use Rattle.guest_cli.proofs.Endings.{cut_piece, ends_stopped_by, ends_past, goes_on}
+use Rattle.guest_cli.proofs.Endings.{cut_piece, ends_stopped_by, ends_past, ends_read, goes_on}
 use Rattle.guest_cli.proofs.session.session.Goals as goal
 
 pub loop-turn-init : goal.loop-turn-init
@@ -21,9 +21,11 @@ loop-turn-init g c = record {
 pub returns-in-Err-answer_piece-clause-run : goal.returns-in-Err-answer_piece-clause-run
 returns-in-Err-answer_piece-clause-run g c =
     let v = c.loop-turn.invariant.answered in
+    let room : length c.read.new.out ≡ 4096 = search rules in
     let within : c.min-within.result ≤ c.in-Ok.got = omega (arith, c.min-within.ensures) in
+    let few : c.loop-turn.total + length (take c.min-within.result c.read.new.out) ≤ 1073741824 = omega (arith, length-take c.min-within.result c.read.new.out, c.min-within.ensures, c.loop-turn.invariant.most) in
     rw c.ended.ensures (ends_stopped_by _ _ _ _ _ _ _ _ _ _ _ _ _ v.0 v.1 v.2 _ _ _ _ _ _ c.answer_piece.new.splitter (take c.in-Ok.got c.read.new.out) (take c.min-within.result c.read.new.out) _ c.in-Err-answer_piece.stop c.at.result
-    c.loop-turn.invariant.items c.in-Ok.ensures.given.0 (cut_piece c.read.new.out c.min-within.result c.in-Ok.got within) c.at.ensures c.in-Err-answer_piece.ensures.piece)
+    c.loop-turn.invariant.items c.in-Ok.ensures.given.0 (cut_piece c.read.new.out c.min-within.result c.in-Ok.got within) few c.at.ensures c.in-Err-answer_piece.ensures.piece)
 
 pub returns-then-within-got-clause-run : goal.returns-then-within-got-clause-run
 returns-then-within-got-clause-run g c =
@@ -53,3 +55,8 @@ loop-turn-preserved g c =
       outs = omega (arith, c.loop-turn.invariant.outs, c.in-Ok-answer_piece.ensures.out);
       logs = omega (arith, c.loop-turn.invariant.logs, c.in-Ok-answer_piece.ensures.log);
     }
+
+pub returns-in-Err-clause-run : goal.returns-in-Err-clause-run
+returns-in-Err-clause-run g c =
+    let v = c.loop-turn.invariant.answered in
+    ends_read _ _ _ _ _ _ _ _ _ _ _ _ _ v.0 v.1 v.2 _ c.in-Err.ensures.given c.loop-turn.invariant.most

@@ -1,4 +1,4 @@
-use Rattle.guest_rules.proofs.Serving.{all_served}
+use Rattle.guest_rules.proofs.Calm.{all_served}
 use Rattle.guest_rules.proofs.laws.reads_are_served.Goals as goal
 
 pub returns : goal.returns

@@ -1,0 +1,11 @@
+use Rattle.guest_boot.specs.Booting.{state_of}
+use Rattle.guest_boot.proofs.Makes.{file_refused, file_memory}
+use Rattle.guest_boot.proofs.lines.boot_file.Goals as goal
+
+pub returns-in-Err-clause-did : goal.returns-in-Err-clause-did
+returns-in-Err-clause-did g c =
+    rw c.file_cause.ensures (file_refused c.args.file c.args.digest.now (state_of c.args.boot.now) (state_of c.args.boot.now) _ _ c.in-Err.fault c.in-Err.ensures)
+
+pub returns-in-Err-push-clause-did : goal.returns-in-Err-push-clause-did
+returns-in-Err-push-clause-did g c =
+    file_memory c.args.file c.args.digest.now (state_of c.args.boot.now) (state_of (record { tables = c.args.boot.now.tables; items = c.args.boot.now.items; files = c.push.new.self })) _ _ c.in-Ok.opened c.in-Ok.ensures

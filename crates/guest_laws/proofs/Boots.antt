@@ -1,0 +1,98 @@
+-- A boot over an honest host that holds what each line needs.
+use Rattle.std.proofs.Common.{◌≡◌, ℕ, zero, suc, ◌-◌, ◌^◌, ◌<◌, ◌∙◌, Bool, true, false, cond, List, [], ◌∷◌, ◌++◌, filter, length, Option, Some, Result, Ok, Err, refl, ap, sym, subst, inl, inr, arith}
+use Rattle.std.specs.Prelude.{slice_get, OnErr}
+use Rattle.host_traits.specs.declared.calls.Call.{Call}
+use Rattle.host_traits.specs.declared.calls.Said.{Said}
+use Rattle.host_traits.specs.Held.{Held, serve}
+use Rattle.host_traits.specs.Told.{Told, Exchanges, Made, HeldAfter, heard_of, failures_of}
+use Rattle.host_traits.specs.Did.{Trace, trace_of, IsIn, Each, reads}
+use Rattle.host_traits.proofs.Doing.{each_so, in_left, in_right}
+use Rattle.gpt.specs.declared.values.Table.{Table}
+use Rattle.guest_plan.specs.declared.plan.PlanLine.{PlanLine}
+use Rattle.guest_plan.specs.declared.plan.PlanLine.TheVariants as line
+use Rattle.guest_boot.specs.declared.faults.BootCause.{BootCause}
+use Rattle.guest_boot.specs.declared.faults.BootCause.TheVariants.{Gpt, NoPart, Apk, File, Failed, Short, Memory}
+use Rattle.guest_boot.specs.declared.faults.BootFault.{BootFault}
+use Rattle.guest_boot.specs.Finding.{ReadsTable}
+use Rattle.guest_boot.specs.Booting.{Booted, Boots, IsFault, IsForLines, LineFails, BlobFails, later_of, nothing}
+use Rattle.guest_rules.specs.Machine.{World}
+use Rattle.guest_cli.specs.declared.boot.Machine.{Machine}
+use Rattle.guest_cli.specs.Booted.{BootedOutcome}
+use Rattle.guest_laws.specs.Fitting.{AreTrue, Fits, HoldsApk, makes_item, item_line}
+use Rattle.guest_laws.specs.Passing.{BootsPass}
+use Rattle.guest_laws.proofs.Asking.{AreHeld, IsBootCall, boot_held, boot_call, not_failed}
+use Rattle.guest_laws.proofs.Fits.{Knows, true_table, true_left, true_right}
+use Rattle.guest_laws.proofs.Lines.{knows_none, line_knows}
+use Rattle.guest_laws.proofs.Passes.{CanNotFail, apk_passes, file_passes}
+
+-- ---- the line that failed is one of the plan's
+
+-- what follows some lines, by how many of them make items
+past_one : (b : Bool) (l : PlanLine) (ys zs : List PlanLine) (x : PlanLine) → slice_get ys (length zs) ≡ Some x → slice_get (cond b (l ∷ ys) ys) (length (cond b (l ∷ zs) zs)) ≡ Some x
+past_one true l ys zs x e = e
+past_one false l ys zs x e = e
+
+item_at : (before : List PlanLine) (l : PlanLine) (after : List PlanLine) → makes_item l ≡ true → item_line (before ++ l ∷ after) (length (filter makes_item before)) ≡ Some l
+item_at [] l after e = subst (λ (b : Bool). slice_get (cond b (l ∷ filter makes_item after) (filter makes_item after)) 0 ≡ Some l) (sym e) refl
+item_at (k ∷ before) l after e = past_one (makes_item k) k (filter makes_item (before ++ l ∷ after)) (filter makes_item before) l (item_at before l after e)
+
+stands_at : (before : List PlanLine) (l : PlanLine) (after : List PlanLine) → slice_get (before ++ l ∷ after) (length before) ≡ Some l
+stands_at [] l after = refl
+stands_at (k ∷ before) l after = stands_at before l after
+
+-- ---- the tables that were read before it
+
+knows_all : (h : Held) (disk : ℕ) (t : Table) → ((own : Exchanges) (u : Table) → AreTrue h disk own → ReadsTable disk own u → u ≡ t) → (lines : List PlanLine) (s new : Booted) (own : Exchanges)
+    → Boots s lines own new → Knows disk t s.tables → AreTrue h disk own → Knows disk t new.tables
+knows_all h disk t read [] s new own b known heard = subst (λ (z : Booted). Knows disk t z.tables) (sym b.1) known
+knows_all h disk t read (l ∷ lines) s new own b known heard =
+    knows_all h disk t read lines b.2 new b.1 b.5 (line_knows h disk t read s b.2 l b.0 known (true_left h disk own b.0 b.1 b.3 heard) b.4) (true_right h disk own b.0 b.1 b.3 heard)
+
+blob_passes : (why : BootCause) → BlobFails why → why ≡ Memory
+blob_passes Memory e = refl
+blob_passes (Gpt f) e = absurd e
+blob_passes (NoPart name) e = absurd e
+blob_passes (Apk f) e = absurd e
+blob_passes (File f) e = absurd e
+blob_passes (Failed faults) e = absurd e
+blob_passes (Short asked got) e = absurd e
+
+module _ (lines : List PlanLine) (numbers : List ℕ) (world : World) (h : Held) (fits : Fits lines world h) (t : Trace) (heard : AreHeld h t.own) (calm : CanNotFail h t) where
+  line_passes : (before : List PlanLine) (l : PlanLine) (after : List PlanLine) (first rest : Exchanges) (mid : Booted) (why : BootCause) → lines ≡ before ++ l ∷ after → t.own ≡ first ++ rest
+      → Boots nothing before first mid → LineFails mid l why (later_of t rest) → why ≡ Memory
+  line_passes before (line.Blob file m) after first rest mid why are cut booted fails = blob_passes why fails.1
+  line_passes before (line.Apk disk apk idsig how) after first rest mid why are cut booted fails =
+      let l : PlanLine = line.Apk disk apk idsig how in
+      let f = fits.apks (length (filter makes_item before)) disk apk idsig how (subst (λ (z : List PlanLine). item_line z (length (filter makes_item before)) ≡ Some l) (sym are) (item_at before l after refl)) in
+      let truly : AreTrue h disk t.own = λ call said i of. heard call said i in
+      let read = true_table h disk apk idsig how f.measure f.bytes f.holds in
+      let known = knows_all h disk f.holds.table read before nothing mid first booted (knows_none disk f.holds.table) (true_left h disk t.own first rest cut truly) in
+      apk_passes h disk apk idsig how f.measure f.bytes f.holds f.measured mid (later_of t rest) (true_right h disk t.own first rest cut truly) known calm why fails
+  line_passes before (line.File name file digest) after first rest mid why are cut booted fails =
+      let l : PlanLine = line.File name file digest in
+      let f = fits.files (length before) name file digest (subst (λ (z : List PlanLine). slice_get z (length before) ≡ Some l) (sym are) (stands_at before l after)) in
+      let truly : (call : Call) (said : Said) → IsIn call said rest → serve h call [] ≡ Some (said, h) = λ call said i. heard call said (subst (IsIn call said) (sym cut) (in_right call said first rest i)) in
+      file_passes h file digest f.bytes f.salt f.holds (later_of t rest) truly calm why fails
+  line_passes before other after first rest mid why are cut booted fails = absurd fails
+
+  pub fault_passes : (fault : BootFault) → IsFault lines numbers fault t → fault.why ≡ Memory
+  fault_passes fault f = line_passes f.before f.line f.after f.first f.rest f.mid fault.why f.lines_are f.cut f.booted f.fails
+
+  pub outcome_passes : (result : Result Machine BootFault) → BootedOutcome lines numbers result t → OnErr result (λ fault. fault.why ≡ Memory)
+  outcome_passes (Ok m) o = tt
+  outcome_passes (Err fault) (inl none) = none.0
+  outcome_passes (Err fault) (inr f) = fault_passes fault f
+
+-- the calls of lines are boot's
+pub lines_call : (lines : List PlanLine) (own : List Made) → Each (reads (IsForLines lines)) own → Each (reads IsBootCall) own
+lines_call lines own each = each_so (reads (IsForLines lines)) (reads IsBootCall) own (λ call given p. (boot_call p.0.line call p.0.for, p.1)) each
+
+pub boots_pass : BootsPass
+boots_pass lines numbers world old new result h did told honest fits =
+    let held = subst (λ (z : Bool). HeldAfter z old.held did.own new.held) honest did.talked.held in
+    let after = subst (λ (o : Option Held). HeldAfter true o did.own new.held) told held in
+    let calls = lines_call lines did.own did.calls in
+    let boot = boot_held true did.own h after.0 after.2 calls in (
+      outcome_passes lines numbers world h fits (trace_of (heard_of did.own) (failures_of did.own) old new) boot.1 (λ call said one last serves. not_failed old new did.own h call said did.talked told honest calls one last serves) result did.outcome,
+      after.1 ∙ ap (λ (z : Held). Some z) boot.0,
+    )

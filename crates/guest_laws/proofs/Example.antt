@@ -1,0 +1,82 @@
+-- A host that a store list makes, and a plan that it fits: a blob of two blocks, whose file is the store's by a `verity` line.
+use Rattle.std.proofs.Common.{◌≡◌, ℕ, zero, suc, ◌*◌, ◌<◌, ◌≤◌, true, List, [], ◌∷◌, length, Some, None, refl, subst, sym, arith}
+use Rattle.std.specs.Prelude.{Option, slice_get, replicate, ◌==◌, if◌then◌else◌}
+use Rattle.std.proofs.lemmas.Bool.Decides.{nat_tests}
+use Rattle.std.proofs.lemmas.List.{length-replicate}
+use Rattle.host_traits.specs.Held.{Held, with_file}
+use Rattle.host_mem.specs.Made.{nothing, verity_file, is_tree_page}
+use Rattle.sha_tree.specs.declared.measure.Measure.{Measure}
+use Rattle.sha_tree.specs.Tree.{block_count, pages_at, top, page, root}
+use Rattle.mg_base.specs.declared.values.Digest.{Digest}
+use Rattle.guest_plan.specs.declared.plan.How.{How}
+use Rattle.guest_plan.specs.declared.plan.PlanLine.{PlanLine}
+use Rattle.guest_plan.specs.declared.plan.PlanLine.TheVariants as line
+use Rattle.guest_rules.specs.Machine.{World}
+use Rattle.guest_laws.specs.Fitting.{Fits, FitsBlob, item_line}
+use Rattle.guest_laws.proofs.Lines.{same_line}
+
+is_page : (count level i : ℕ) → 0 < level → level ≤ top count → i < pages_at count level → is_tree_page count level i ≡ true
+is_page count level i some low within = grind (arith, nat_tests)
+
+module _ (content : List ℕ) (len : length content ≡ 8192) where
+  abbrev pub measure : Measure
+  measure = record { blocks = 2; salt = []; root = record { 0 = root content [] } }
+
+  abbrev pub held : Held
+  held = with_file nothing 1 (verity_file content [])
+
+  abbrev pub plan : List PlanLine
+  plan = line.Blob 1 measure ∷ []
+
+  abbrev pub world : World
+  world k = if k == 0 then Some content else None
+
+  tree_held : (level i : ℕ) → 0 < level → level ≤ top 2 → i < pages_at 2 level → (verity_file content []).tree level i ≡ page content [] level i
+  unfolding verity_file
+  tree_held level i some low within =
+      let count : block_count (length content) ≡ 2 = omega (arith, len) in
+      let test : is_tree_page (block_count (length content)) level i ≡ true = subst (λ (n : ℕ). is_tree_page n level i ≡ true) (sym count) (is_page 2 level i some low within) in
+      rw test refl
+
+  bytes_held : (verity_file content []).bytes ≡ content
+  unfolding verity_file
+  bytes_held = refl
+
+  blob_held : FitsBlob held (Some content) 1 measure
+  blob_held = record {
+    bytes = content;
+    content_is = refl;
+    measured = record { size = omega (arith, len); root = refl };
+    holds = record { file = verity_file content []; there = refl; size_is = omega (arith, len); bytes = bytes_held; tree = tree_held };
+  }
+
+  abbrev IsHeldBlob : Option (List ℕ) → PlanLine → Type 0
+  IsHeldBlob o (line.Blob file m) = FitsBlob held o file m
+  IsHeldBlob o other = Unit {0}
+
+  blob_at : (k file : ℕ) (m : Measure) → item_line plan k ≡ Some (line.Blob file m) → FitsBlob held (world k) file m
+  blob_at zero file m at = subst (IsHeldBlob (Some content)) (same_line (line.Blob 1 measure) (line.Blob file m) at) blob_held
+  blob_at (suc k) file m at = absurd cc
+
+  no_apk : (k disk : ℕ) (apk idsig : List ℕ) (how : How) → item_line plan k ≡ Some (line.Apk disk apk idsig how) → ⊥
+  no_apk zero disk apk idsig how at = let same = same_line (line.Blob 1 measure) (line.Apk disk apk idsig how) at in cc
+  no_apk (suc k) disk apk idsig how at = cc
+
+  no_file : (k : ℕ) (name : List ℕ) (file : ℕ) (digest : Digest) → slice_get plan k ≡ Some (line.File name file digest) → ⊥
+  no_file zero name file digest at = let same = same_line (line.Blob 1 measure) (line.File name file digest) at in cc
+  no_file (suc k) name file digest at = cc
+
+  -- the host of that one line holds what the plan needs
+  pub blob_fits : Fits plan world held
+  blob_fits = record {
+    blobs = blob_at;
+    apks = λ k disk apk idsig how at. absurd (no_apk k disk apk idsig how at);
+    files = λ k name file digest at. absurd (no_file k name file digest at);
+  }
+
+-- such a content: 8,192 sevens
+sevens : List ℕ
+sevens = replicate 8192 7
+
+pub sevens_fit : Fits (plan sevens (length-replicate {A = ℕ} 8192 7)) (world sevens (length-replicate {A = ℕ} 8192 7)) (held sevens (length-replicate {A = ℕ} 8192 7))
+sevens_fit = blob_fits sevens (length-replicate {A = ℕ} 8192 7)
