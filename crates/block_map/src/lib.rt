@@ -6,7 +6,5 @@ mod bytes;
 mod map;
 mod moves;
 mod spans;
-#[cfg(test)]
-mod tests;
 
 pub use crate::map::{Map, MapFault};

@@ -9,8 +9,6 @@ mod image;
 mod names;
 mod putting;
 mod reading;
-#[cfg(test)]
-mod tests;
 mod values;
 mod writing;
 

@@ -20,6 +20,3 @@ pub use crate::store_reading::read_store;
 pub use crate::writing::write_plan;
 pub use sha_tree::Measure;
 pub use text_lines::{Name, PlanFault, PlanKind};
-
-#[cfg(test)]
-mod tests;

@@ -2,7 +2,7 @@ use Rattle.std.proofs.Common.{arith}
 use Rattle.std.proofs.lemmas.List.Elements.{All-replicate}
 use Rattle.gpt.specs.Image.{HasSectors}
 use Rattle.gpt.proofs.ImageLaws.{taken-replicate}
-use Rattle.gpt.proofs.tests.crowded.Goals as goal
+use Rattle.test_guest.proofs.tables.crowded.Goals as goal
 
 pub write_gpt-requires-clause-each : goal.write_gpt-requires-clause-each
 write_gpt-requires-clause-each c =

@@ -1,7 +1,7 @@
 use Rattle.std.proofs.Common.{◌∷◌, [], arith}
 use Rattle.std.proofs.lemmas.List.Elements.{All-from_recursion}
 use Rattle.gpt.specs.Image.{taken, HasSectors}
-use Rattle.gpt.proofs.tests.image.Goals as goal
+use Rattle.test_guest.proofs.tables.image.Goals as goal
 
 pub write_gpt-requires-clause-each : goal.write_gpt-requires-clause-each
 write_gpt-requires-clause-each c =

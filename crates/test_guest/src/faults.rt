@@ -1,0 +1,129 @@
+// One read of a blob where calls of what stands outside fail, and streams that come in pieces.
+use crate::setting::{Setting, run};
+use std::alloc::Global;
+use std::test::Fail;
+
+// The root is that of two blocks of zeros, by Python's hashlib.
+const PLAN: &[u8] =
+    b"plan 1\nblob 7 2 - 90b10db56173e2e7c847f6ff3ed85a3aebb140bc0064ec9a156ae5b2e71db988\n";
+
+const STORE: &[u8] = b"store 1\nverity 7 blob -\nempty 1\nkeep file 1 kept\n";
+
+const SERVE: &[&str] = &["serve", "plan", "store", "entropy", "tape"];
+
+const REPLAY: &[&str] = &["replay", "plan", "tape", "entropy"];
+
+// Two reads of item 0: four bytes at 0, and four at 4.
+const STREAM: &[u8] =
+    b"\x10\0\0\0\x01\0\0\0\0\0\0\0\0\0\0\0\0\0\0\0\x04\0\0\0\x10\0\0\0\x01\0\0\0\0\0\0\0\x04\0\0\0\0\0\0\0\x04\0\0\0";
+
+const REPLIES: &[u8] = b"\x08\0\0\0\x01\0\0\0\0\0\0\0\0\0\0\0\x08\0\0\0\x01\0\0\0\0\0\0\0\0\0\0\0";
+
+// The numbers of the calls that fail: of the folder, reads of the stream, replies, lines of the log.
+type Calls = (
+    &'static [u64],
+    &'static [u64],
+    &'static [u64],
+    &'static [u64],
+);
+
+// Replays and sessions whose calls fail: which words, which calls, the status and the log.
+const FAULTS: &[(&[&str], Calls, u8, &str)] = &[
+    (REPLAY, (&[0], &[], &[], &[]), 3, "end 3 file plan\n"),
+    (REPLAY, (&[1], &[], &[], &[]), 3, "end 3 file tape\n"),
+    (REPLAY, (&[2], &[], &[], &[]), 3, "end 3 file entropy\n"),
+    (REPLAY, (&[0], &[], &[], &[0]), 6, ""),
+    (REPLAY, (&[], &[], &[], &[0]), 6, ""),
+    (SERVE, (&[0], &[], &[], &[]), 3, "end 3 file plan\n"),
+    (SERVE, (&[1], &[], &[], &[]), 3, "end 3 file store\n"),
+    (SERVE, (&[2], &[], &[], &[]), 3, "end 3 file blob\n"),
+    (SERVE, (&[3], &[], &[], &[]), 3, "end 3 file entropy\n"),
+    (SERVE, (&[4], &[], &[], &[]), 3, "end 3 file tape\n"),
+    (SERVE, (&[5], &[], &[], &[]), 3, "end 3 file kept\n"),
+    (SERVE, (&[], &[0], &[], &[]), 5, "end 5 read\n"),
+    (SERVE, (&[], &[24], &[], &[]), 5, "end 5 read\n"),
+    (SERVE, (&[], &[], &[0], &[]), 6, ""),
+    (SERVE, (&[], &[], &[1], &[]), 6, ""),
+    (SERVE, (&[], &[], &[], &[0]), 0, ""),
+];
+
+// The reads, with these calls failing.
+fn fails<'x>(
+    alloc: Global,
+    blob: &'x [u8],
+    words: &'x [&'x str],
+    calls: Calls,
+    status: u8,
+    log: &str,
+) -> Result<(), Fail> {
+    let (failing_files, failing_reads, failing_replies, failing_lines) = calls;
+    let files = [
+        ("plan", PLAN),
+        ("store", STORE),
+        ("entropy", b"".as_slice()),
+        ("blob", blob),
+        ("tape", b"guest-tape 1\n".as_slice()),
+    ];
+    let setting = Setting {
+        words,
+        files: &files,
+        stream: STREAM,
+        piece: 1,
+        failing_files,
+        failing_reads,
+        failing_replies,
+        failing_lines,
+    };
+    let outcome = run(alloc, &setting)?;
+    outcome.expect(status, log)?;
+    if outcome.folder.get("kept").is_some() != (status == 0) {
+        return Err(Fail::new(format_args!("what was kept; {log}")));
+    }
+    Ok(())
+}
+
+#[test]
+fn names_each_fault(rt: HostRuntime) -> Result<(), Fail> {
+    let alloc = rt.alloc();
+    let blob = vec![in alloc; 0u8; 8192]?;
+    for (words, calls, status, log) in FAULTS {
+        fails(alloc, &blob, words, *calls, *status, log)?;
+    }
+    Ok(())
+}
+
+// The stream in pieces of this size.
+fn comes_in_pieces(alloc: Global, blob: &[u8], piece: usize) -> Result<(), Fail> {
+    let files = [
+        ("plan", PLAN),
+        ("store", STORE),
+        ("entropy", b"".as_slice()),
+        ("blob", blob),
+    ];
+    let setting = Setting {
+        words: SERVE,
+        files: &files,
+        stream: STREAM,
+        piece,
+        failing_files: &[],
+        failing_reads: &[],
+        failing_replies: &[],
+        failing_lines: &[],
+    };
+    let outcome = run(alloc, &setting)?;
+    outcome.expect(0, "")?;
+    if outcome.replies.bytes() != REPLIES {
+        return Err(Fail::new(format_args!("other replies; pieces of {piece}")));
+    }
+    Ok(())
+}
+
+#[test]
+fn takes_a_stream_in_pieces(rt: HostRuntime) -> Result<(), Fail> {
+    let alloc = rt.alloc();
+    let blob = vec![in alloc; 0u8; 8192]?;
+    for piece in [1, 2, 3, 4, 5, 6, 7, 48] {
+        comes_in_pieces(alloc, &blob, piece)?;
+    }
+    Ok(())
+}
