@@ -101,9 +101,13 @@ impl Engine {
     // An engine of these devices and files.
     pub(crate) fn new(opened: Opened, entropy: Entropy, served: Served, buf: Buffers) -> Engine
         requires { AreItems opened.items.items }
-        ensures { result ≡ record
-            { items = opened.items.items; files = opened.files.items; state = record
-            { entropy = entropy }; served = served } }
+        ensures { result ≡ record {
+          items = opened.items.items;
+          files = opened.files.items;
+          state = record
+              { entropy = entropy };
+          served = served;
+        } }
     {
         let Opened { items, files } = opened;
         Engine {

@@ -152,8 +152,7 @@ fn end_words(status: &Status) -> Line
 // Writes a file's end line.
 fn write_file_end<L: Sink>(name: &str, log: &mut L) -> Result<(), Failed>
     ensures ok { OnOk result (Appends (L.holds log.old) (L.holds log.new) (file_end name.now)) }
-    ensures err { OnErr result (SomePrefix (L.holds log.old) (L.holds log.new) (file_end name.now))
-        }
+    ensures err { OnErr result (SomePrefix (L.holds log.old) (L.holds log.new) (file_end name.now)) }
     ensures cause { HasCause (L.faults log.old) (L.faults log.new) result }
 {
     match log.write_all(b"end 3 file ") {

@@ -21,8 +21,12 @@ fn serve<F: Folder, S: Source, K: Sink, L: Sink>(
     log: &mut L,
 ) -> Status
     ensures serves { Serves (command_of (map string_bytes words.now))
-        (record { old = F.files folder.old; new = F.files folder.new; last = F.last_failed
-        folder.new }) (record
+        (record {
+          old = F.files folder.old;
+          new = F.files folder.new;
+          last = F.last_failed
+              folder.new;
+        }) (record
         { input = S.left input.old; out = K.holds out.old; log = L.holds log.old })
         (record { input = S.left input.new; out = K.holds out.new; log = L.holds log.new }) result }
     ensures file { FileCause (F.faults folder.old) (F.faults folder.new) (F.last_failed folder.new)
@@ -78,8 +82,12 @@ pub fn guest<F: Folder, S: Source, K: Sink, L: Sink>(
     log: &mut L,
 ) -> Status
     ensures guest { Guest (command_of (map string_bytes words.now))
-        (record { old = F.files folder.old; new = F.files folder.new; last = F.last_failed
-        folder.new }) (record
+        (record {
+          old = F.files folder.old;
+          new = F.files folder.new;
+          last = F.last_failed
+              folder.new;
+        }) (record
         { input = S.left input.old; out = K.holds out.old; log = L.holds log.old })
         (record { input = S.left input.new; out = K.holds out.new; log = L.holds log.new }) result }
     ensures file { FileCause (F.faults folder.old) (F.faults folder.new) (F.last_failed folder.new)

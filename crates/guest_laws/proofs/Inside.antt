@@ -55,5 +55,5 @@ both_named apk idsig None p a i e = absurd cc
 both_named apk idsig (Some x) None a i e = absurd cc
 both_named apk idsig (Some x) (Some y) a i e =
     let same : (x, y) ≡ (a, i) = ok_is (x, y) (a, i) e in (subst (λ (z : Span × Span). Some x ≡ Some z.0) same refl, subst (λ (z : Span × Span). Some y ≡ Some z.1) same refl) where
-  ok_is : (u v : Span × Span) → ◌≡◌ {A = Result (Span × Span) (List ℕ)} (Ok u) (Ok v) → u ≡ v
-  ok_is u v e = cc
+      ok_is : (u v : Span × Span) → ◌≡◌ {A = Result (Span × Span) (List ℕ)} (Ok u) (Ok v) → u ≡ v
+      ok_is u v e = cc

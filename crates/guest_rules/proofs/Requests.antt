@@ -22,9 +22,9 @@ applied items world s t a b frame sent cause heard h r it content step told few 
     let in_world = runs_stand items world (moment s a heard) (turn ∷ []) (moment t b (heard ++ heard_of step.own)) w (moment t b (heard ++ heard_of step.own), few, step.step heard told, refl) in
     let one : Step items world (moment s a heard) turn (moment t b (heard ++ heard_of step.own)) = subst (λ m. Step items world (moment s a heard) turn m) in_world.3 in_world.2 in
     all_served items world (moment s a heard) turn (moment t b (heard ++ heard_of step.own)) h r it content one request at item is w held holds (calm_by calm) where
-  calm_by : (Rose a.faults b.faults → ⊥) ⊎ (a.honest ≡ true) → (failures_of step.own ≡ 0) ⊎ (a.honest ≡ true)
-  calm_by (inl stays) = inl (none_of (failures_of step.own) (λ some. let c = step.talked.counted in stays (omega (arith, some, c))))
-  calm_by (inr honest) = inr honest
+      calm_by : (Rose a.faults b.faults → ⊥) ⊎ (a.honest ≡ true) → (failures_of step.own ≡ 0) ⊎ (a.honest ≡ true)
+      calm_by (inl stays) = inl (none_of (failures_of step.own) (λ some. let c = step.talked.counted in stays (omega (arith, some, c))))
+      calm_by (inr honest) = inr honest
 
 same_heard : (x y : Exchanges) → Some x ≡ Some y → x ≡ y
 same_heard x y e = cc
