@@ -4,7 +4,7 @@ use Rattle.guest_boot.proofs.lines.boot_file.Goals as goal
 
 pub returns-in-Err-clause-did : goal.returns-in-Err-clause-did
 returns-in-Err-clause-did g c =
-    rw c.file_cause.ensures (file_refused c.args.file c.args.digest.now (state_of c.args.boot.now) (state_of c.args.boot.now) _ _ c.in-Err.fault c.in-Err.ensures)
+    rw c.file_cause.ensures (file_refused c.args.file c.args.digest.now (state_of c.args.boot.now) (state_of c.args.boot.now) _ _ c.in-Err.fault c.in-Err.ensures.did)
 
 pub returns-in-Err-push-clause-did : goal.returns-in-Err-push-clause-did
 returns-in-Err-push-clause-did g c =

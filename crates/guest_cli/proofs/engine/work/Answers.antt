@@ -38,4 +38,4 @@ returns-clause-step g c =
     let size = c.parse-question.ensures.size in
     let offset = c.parse-question.ensures.offset in
     rw (c.read_answer.ensures, c.requires.channel, ← c.engine.view_is)
-    (read_step _ _ _ _ c.args.payload.now c.index-it.result.now (omega (arith, item, there)) (rw item at at) (omega (arith, size)) _ c.read_range-done.result (rw (offset, size) at c.read_range-done.ensures))
+    (read_step _ _ _ _ c.args.payload.now c.index-it.result.now (omega (arith, item, there)) (rw item at at) (omega (arith, size)) _ c.read_range-done.result (rw (offset, size) at c.read_range-done.ensures.did))
