@@ -1,10 +1,10 @@
-use Rattle.std.proofs.Common.{◌≡◌, ◌-◌, ◌≤◌, ◌∙◌, refl, [], length, take, drop, arith, rules}
+use Rattle.std.proofs.Common.{◌≡◌, ◌-◌, ◌+◌, ◌≤◌, ◌∙◌, refl, [], length, take, drop, arith, rules}
 use Rattle.std.proofs.lemmas.List.{length-drop, length-take}
 use Rattle.std.specs.Io.KnownBytes.{Consumes}
 use Rattle.session_frames.proofs.Sessions.{so_far_not}
 use Rattle.session_frames.proofs.Streams.{nothing_is_cut}
 use Rattle.guest_rules.proofs.Runs.{ran_none}
-use Rattle.guest_cli.proofs.Endings.{cut_piece, ends_stopped_by, ends_past, ends_read, goes_on}
+use Rattle.guest_cli.proofs.Endings.{cut_piece, ends_stopped_by, ends_inside, ends_past, ends_read, goes_on}
 use Rattle.guest_cli.proofs.session.session.Goals as goal
 
 pub loop-turn-init : goal.loop-turn-init
@@ -60,3 +60,12 @@ pub returns-in-Err-clause-run : goal.returns-in-Err-clause-run
 returns-in-Err-clause-run g c =
     let v = c.loop-turn.invariant.answered in
     ends_read _ _ _ _ _ _ _ _ _ _ _ _ _ v.0 v.1 v.2 _ c.in-Err.ensures.given c.loop-turn.invariant.most
+
+pub returns-then-got-eq0-clause-run : goal.returns-then-got-eq0-clause-run
+returns-then-got-eq0-clause-run g c =
+    let v = c.loop-turn.invariant.answered in
+    let room : length c.read.new.out ≡ 4096 = search rules in
+    let none : c.in-Ok.got ≡ 0 = omega (arith, c.if-got-eq0.true) in
+    let came : Consumes (g.S.Source.left c.loop-turn.input) (g.S.Source.left c.read.new.self) (take 0 c.read.new.out) = rw none at c.in-Ok.ensures.given.0 in
+    let some : length c.loop-turn.splitter.held ≡ 0 → ⊥ = λ e. omega (arith, e, c.len.ensures, c.if-len-eq0.false) in
+    ends_inside _ _ _ _ _ _ _ _ _ _ _ _ _ v.0 v.1 v.2 _ c.read.new.out c.at-at.result came (c.in-Ok.ensures.given.1 none (omega (arith, room))) c.loop-turn.invariant.most some c.at-at.ensures
