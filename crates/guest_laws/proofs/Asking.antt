@@ -1,5 +1,6 @@
 -- The calls of boot: they change nothing that is held, and over an honest host none fails that what is held can serve.
-use Rattle.std.proofs.Common.{◌≡◌, ◌<◌, ◌+◌, ◌∙◌, ℕ, zero, suc, Bool, true, List, [], ◌∷◌, ◌++◌, Option, Some, None, refl, ap, sym, subst, inl, inr, arith}
+use Rattle.std.proofs.Common.{◌≡◌, ◌<◌, ◌+◌, ◌-◌, ◌∙◌, ℕ, zero, suc, Bool, true, List, [], ◌∷◌, ◌++◌, Option, Some, None, refl, ap, sym, subst, inl, inr, arith}
+use Rattle.std.specs.Prelude.{min}
 use Rattle.host_traits.specs.declared.calls.Call.{Call}
 use Rattle.host_traits.specs.declared.calls.Call.TheVariants.{BlockSize, BlockRead, Descriptor}
 use Rattle.host_traits.specs.declared.calls.Said.{Said}
@@ -91,17 +92,20 @@ first_refused h k before c given None own call s bare some none last =
     subst (λ (z : Call). serve h z [] ≡ None) this (subst (λ (g : List ℕ). serve h c g ≡ None) bare (s.1 refl))
 first_refused h k before c given (Some said) own call s bare some none last = absurd (omega (arith, some, none))
 
+-- the last call that failed is the first one, or one of the later ones
+first_or_later : (n : ℕ) (h k : Held) (before : Option Call) (c : Call) (given : List ℕ) (came : Option Said) (own : List Made) (call : Call) → failures_of own ≡ n → Serves true h c given came k
+    → given ≡ [] → 0 < one_failure came + failures_of own → last_after (failed_by before c came) own ≡ Some call → (0 < failures_of own → serve h call [] ≡ None) → serve h call [] ≡ None
+first_or_later zero h k before c given came own call e s bare some last later = first_refused h k before c given came own call s bare some e last
+first_or_later (suc n) h k before c given came own call e s bare some last later = later (omega (arith, e))
+
 -- over an honest host, the last call that failed can't be served by what is held
 refused_last : (own : List Made) (h k : Held) (before : Option Call) (call : Call) → ServesAll true h own k → Each (reads IsBootCall) own → 0 < failures_of own → last_after before own ≡ Some call
     → serve h call [] ≡ None
 refused_last [] h k before call s each some last = absurd (omega (arith, some))
-refused_last (m ∷ own) h k before call s each some last = by_later (failures_of own) refl where
-  same : s.0 ≡ h
-  same = boot_keeps true h s.0 m.call m.given m.came each.0.0 s.1
-
-  by_later : (n : ℕ) → failures_of own ≡ n → serve h call [] ≡ None
-  by_later zero e = first_refused h s.0 before m.call m.given m.came own call s.1 each.0.1 some e last
-  by_later (suc n) e = refused_last own h k (failed_by before m.call m.came) call (subst (λ (z : Held). ServesAll true z own k) same s.2) each.1 (omega (arith, e)) last
+refused_last (m ∷ own) h k before call s each some last =
+    let same : s.0 ≡ h = boot_keeps true h s.0 m.call m.given m.came each.0.0 s.1 in
+    first_or_later (failures_of own) h s.0 before m.call m.given m.came own call refl s.1 each.0.1 some last
+    (λ more. refused_last own h k (failed_by before m.call m.came) call (subst (λ (z : Held). ServesAll true z own k) same s.2) each.1 more last)
 
 not_both : (a : Said × Held) (o : Option (Said × Held)) → o ≡ None → o ≡ Some a → ⊥
 not_both a o e f = cc

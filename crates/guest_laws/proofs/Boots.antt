@@ -1,6 +1,6 @@
 -- A boot over an honest host that holds what each line needs.
 use Rattle.std.proofs.Common.{◌≡◌, ℕ, zero, suc, ◌-◌, ◌^◌, ◌<◌, ◌∙◌, Bool, true, false, cond, List, [], ◌∷◌, ◌++◌, filter, length, Option, Some, Result, Ok, Err, refl, ap, sym, subst, inl, inr, arith}
-use Rattle.std.specs.Prelude.{slice_get, OnErr}
+use Rattle.std.specs.Prelude.{slice_get, IfErr}
 use Rattle.host_traits.specs.declared.calls.Call.{Call}
 use Rattle.host_traits.specs.declared.calls.Said.{Said}
 use Rattle.host_traits.specs.Held.{Held, serve}
@@ -78,7 +78,7 @@ module _ (lines : List PlanLine) (numbers : List ℕ) (world : World) (h : Held)
   pub fault_passes : (fault : BootFault) → IsFault lines numbers fault t → fault.why ≡ Memory
   fault_passes fault f = line_passes f.before f.line f.after f.first f.rest f.mid fault.why f.lines_are f.cut f.booted f.fails
 
-  pub outcome_passes : (result : Result Machine BootFault) → BootedOutcome lines numbers result t → OnErr result (λ fault. fault.why ≡ Memory)
+  pub outcome_passes : (result : Result Machine BootFault) → BootedOutcome lines numbers result t → IfErr result (λ fault. fault.why ≡ Memory)
   outcome_passes (Ok m) o = tt
   outcome_passes (Err fault) (inl none) = none.0
   outcome_passes (Err fault) (inr f) = fault_passes fault f

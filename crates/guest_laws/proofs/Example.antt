@@ -4,7 +4,8 @@ use Rattle.std.specs.Prelude.{Option, slice_get, replicate, ◌==◌, if◌then�
 use Rattle.std.proofs.lemmas.Bool.Decides.{nat_tests}
 use Rattle.std.proofs.lemmas.List.{length-replicate}
 use Rattle.host_traits.specs.Held.{Held, with_file}
-use Rattle.host_mem.specs.Made.{nothing, verity_file, is_tree_page}
+use Rattle.host_mem.specs.Made.{nothing}
+use Rattle.mem_files.specs.FsVerity.{verity_file, is_tree_page}
 use Rattle.sha_tree.specs.declared.measure.Measure.{Measure}
 use Rattle.sha_tree.specs.Tree.{block_count, pages_at, top, page, root}
 use Rattle.mg_base.specs.declared.values.Digest.{Digest}
@@ -75,7 +76,7 @@ module _ (content : List ℕ) (len : length content ≡ 8192) where
   }
 
 -- such a content: 8,192 sevens
-sevens : List ℕ
+abbrev sevens : List ℕ
 sevens = replicate 8192 7
 
 pub sevens_fit : Fits (plan sevens (length-replicate {A = ℕ} 8192 7)) (world sevens (length-replicate {A = ℕ} 8192 7)) (held sevens (length-replicate {A = ℕ} 8192 7))

@@ -1,5 +1,5 @@
 -- The table of a disk, by answers that are what is held.
-use Rattle.std.proofs.Common.{◌≡◌, ℕ, ◌+◌, ◌-◌, ◌*◌, ◌/◌, ◌≤◌, ◌∙◌, List, [], ◌∷◌, length, take, drop, All, Result, Some, Ok, Err, refl, ap, sym, subst, inl, inr, arith, true, false, nat_le}
+use Rattle.std.proofs.Common.{◌≡◌, ℕ, ◌+◌, ◌-◌, ◌*◌, ◌/◌, ◌≤◌, ◌∙◌, List, [], ◌∷◌, length, take, drop, All, Result, Some, Ok, Err, refl, ap, sym, subst, inl, inr, arith, true, false, nat_le, ◌⊎◌}
 use Rattle.std.proofs.lemmas.Bool.Decides.{nat_tests}
 use Rattle.std.proofs.lemmas.List.{length-take, length-drop, take_all}
 use Rattle.host_traits.specs.declared.calls.Call.TheVariants.{BlockSize, BlockRead}
@@ -9,13 +9,14 @@ use Rattle.host_traits.specs.declared.calls.Said.TheVariants.{Number, Bytes}
 use Rattle.host_traits.specs.Held.{Held, Disk, serve}
 use Rattle.host_traits.specs.Told.{Exchanges}
 use Rattle.gpt.specs.declared.faults.GptFault.{GptFault}
+use Rattle.gpt.specs.declared.faults.GptFault.TheVariants as broken
 use Rattle.gpt.specs.declared.values.Table.{Table}
 use Rattle.gpt.specs.Grammar.{IsGpt}
 use Rattle.gpt.specs.Rules.{is_sized, gpt_of}
 use Rattle.gpt.proofs.Pieces.{IsByte, part_bytes}
 use Rattle.gpt.proofs.CopyLaws.{gpt_only}
 use Rattle.guest_rules.proofs.Holding.{pair_is, when_is}
-use Rattle.guest_boot.specs.Finding.{size_call, head_call, tail_call, HeardEnds, ReadsTable, TableRefused, EndIsShort, TableNext}
+use Rattle.guest_boot.specs.Finding.{size_call, head_call, tail_call, HeardEnds, ReadsTable, TableRefused, HeardNoSize, BreaksTable, EndIsShort, TableNext}
 use Rattle.guest_laws.specs.Fitting.{AreTrue}
 
 number_is : (a b : ℕ) → Number a ≡ Number b → a ≡ b
@@ -38,6 +39,11 @@ not_sized n low high e = grind (arith, nat_tests)
 
 not_ok : (t : Table) (f : GptFault) → ◌≡◌ {A = Result Table GptFault} (Ok t) (Err f) → ⊥
 not_ok t f e = cc
+
+-- no rule of tables is want of memory
+table_broken : (disk : ℕ) (own : Exchanges) (why : GptFault) → TableRefused disk own why → HeardNoSize disk own why ⊎ BreaksTable disk own why
+table_broken disk own broken.Memory r = absurd r
+table_broken disk own other r = r
 
 module _ (h : Held) (disk : ℕ) (on : Disk) (there : h.disk disk ≡ Some on) where
   -- the number of sectors
@@ -93,12 +99,15 @@ module _ (h : Held) (disk : ℕ) (on : Disk) (there : h.disk disk ≡ Some on) w
     table_held other r = table_is other table (sym r.is ∙ ends_held r.ends)
 
     -- no rule of tables is broken
-    pub not_refused : (why : GptFault) → TableRefused disk own why → ⊥
-    not_refused why (inl none) =
+    not_broken : (why : GptFault) → HeardNoSize disk own why ⊎ BreaksTable disk own why → ⊥
+    not_broken why (inl none) =
         let n : none.sectors ≡ sectors = heard_sectors none.sectors [] none.own_is in
         let most = is.most in
         not_sized none.sectors (omega (arith, n, least)) (omega (arith, n, most)) none.sized
-    not_refused why (inr b) = not_ok table why (sym (ends_held b.ends) ∙ b.is)
+    not_broken why (inr b) = not_ok table why (sym (ends_held b.ends) ∙ b.is)
+
+    pub not_refused : (why : GptFault) → TableRefused disk own why → ⊥
+    not_refused why r = not_broken why (table_broken disk own why r)
 
     full_end : (sector : ℕ) (bytes : List ℕ) → serve h (BlockRead disk sector 40) [] ≡ Some (Bytes bytes, h) → length bytes ≡ 20480
     full_end sector bytes e =

@@ -189,7 +189,7 @@ module _ (h : Held) (number : ℕ) (digest : Digest) (content salt : List ℕ) (
   opens_file bytes e =
       let same : descriptor_bytes mine ≡ bytes = bytes_is (descriptor_bytes mine) bytes (said_is (Bytes (descriptor_bytes mine)) (Bytes bytes) h (sym serves ∙ e)) in
       subst (λ (x : List ℕ). opened_file number digest x ≡ Ok (file_of number mine)) same (open_whole number digest mine sound holds.few (sym holds.measured.digest_is)) where
-        said_is : (a b : Said) (k : Held) → Some (a, k) ≡ Some (b, k) → a ≡ b
+        said_is : (a b : Said) (k : Held) → ◌≡◌ {A = Option (Said × Held)} (Some (a, k)) (Some (b, k)) → a ≡ b
         said_is a b k both = (pair_is (a, k) (b, k) both).0
 
   module _ (t : Trace) (heard : (call : Call) (said : Said) → IsIn call said t.own → serve h call [] ≡ Some (said, h)) (calm : CanNotFail h t) where

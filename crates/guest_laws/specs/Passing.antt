@@ -1,5 +1,5 @@
 -- A boot over an honest host.
-use Rattle.std.specs.Prelude.{true, ◌≡◌, ℕ, List, Some, Result, OnErr}
+use Rattle.std.specs.Prelude.{true, ◌≡◌, ℕ, List, Some, Result, IfErr}
 use Rattle.host_traits.specs.Did.{Did}
 use Rattle.host_traits.specs.Held.{Held}
 use Rattle.host_traits.specs.Told.{Told}
@@ -18,4 +18,4 @@ abbrev pub BootsPass : Type 0
 BootsPass = (lines : List PlanLine) (numbers : List ℕ) (world : World) (old new : Told) (result : Result Machine BootFault) (h : Held)
     → Did (IsForLines lines) (most_of lines) old new (BootedOutcome lines numbers result)
     → old.held ≡ Some h → old.honest ≡ true → Fits lines world h
-    → OnErr result (λ fault. fault.why ≡ Memory) × (new.held ≡ Some h)
+    → IfErr result (λ fault. fault.why ≡ Memory) × (new.held ≡ Some h)
