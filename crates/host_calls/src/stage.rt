@@ -8,7 +8,7 @@ use host_bent::{Bend, Bent};
 use host_mem::MemHost;
 use host_rec::Recorder;
 use host_tape::{Tape, TapeFault, read_tape, write_tape};
-use host_traits::{Answer, Raw, TapeItem};
+use host_traits::{Answer, Host, Raw, TapeItem};
 use std::alloc::Global;
 
 /// The host that the lines ask.
