@@ -48,15 +48,14 @@ const FAULTS: &[(&[&str], Calls, u8, &str)] = &[
 ];
 
 // The reads, with these calls failing.
-fn fails<'x>(
+fn fails(
     alloc: Global,
-    blob: &'x [u8],
-    words: &'x [&'x str],
-    calls: Calls,
+    blob: &[u8],
+    words: &[&str],
+    calls: &Calls,
     status: u8,
     log: &str,
 ) -> Result<(), Fail> {
-    let (failing_files, failing_reads, failing_replies, failing_lines) = calls;
     let files = [
         ("plan", PLAN),
         ("store", STORE),
@@ -69,10 +68,10 @@ fn fails<'x>(
         files: &files,
         stream: STREAM,
         piece: 1,
-        failing_files,
-        failing_reads,
-        failing_replies,
-        failing_lines,
+        failing_files: calls.0,
+        failing_reads: calls.1,
+        failing_replies: calls.2,
+        failing_lines: calls.3,
     };
     let outcome = run(alloc, &setting)?;
     outcome.expect(status, log)?;
@@ -87,7 +86,7 @@ fn names_each_fault(rt: HostRuntime) -> Result<(), Fail> {
     let alloc = rt.alloc();
     let blob = vec![in alloc; 0u8; 8192]?;
     for (words, calls, status, log) in FAULTS {
-        fails(alloc, &blob, words, *calls, *status, log)?;
+        fails(alloc, &blob, words, calls, *status, log)?;
     }
     Ok(())
 }
