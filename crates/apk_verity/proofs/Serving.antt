@@ -1,5 +1,5 @@
--- Opening over an honest host that holds the idsig.
-use Rattle.std.proofs.Common.{true, ◌≡◌, ℕ, ◌+◌, ◌*◌, ◌≤◌, ◌∙◌, min, List, [], length, take, drop, Some, Result, Ok, Err, refl, ap, sym, subst, arith}
+-- Opening over a host that holds the idsig.
+use Rattle.std.proofs.Common.{◌≡◌, ℕ, ◌+◌, ◌*◌, ◌≤◌, ◌∙◌, min, List, [], length, take, drop, Some, Result, Ok, Err, refl, ap, sym, subst, arith}
 use Rattle.std.proofs.lemmas.List.{length-take, length-drop, take-take}
 use Rattle.host_traits.specs.declared.calls.Call.TheVariants.{BlockRead}
 use Rattle.host_traits.specs.declared.calls.Said.TheVariants.{Bytes}
@@ -7,7 +7,7 @@ use Rattle.host_traits.specs.declared.host.HostError.{HostError}
 use Rattle.host_traits.specs.declared.host.HostError.TheVariants.{Failed, Memory}
 use Rattle.host_traits.specs.Held.{Held, serve}
 use Rattle.host_traits.specs.Told.{Told, Asked, Answered, Refused, Unheard}
-use Rattle.host_traits.proofs.Holding.{held_answered, held_refused, held_unheard, not_both, same_answer, sectors_served}
+use Rattle.host_traits.proofs.Holding.{held_answered, held_refused, held_unheard, calm_served, same_answer, sectors_served}
 use Rattle.sha_tree.specs.declared.measure.Measure.{Measure}
 use Rattle.verity_path.specs.declared.device.Device.{Device}
 use Rattle.verity_path.specs.declared.walk.Layout.TheVariants.{Parts}
@@ -41,13 +41,13 @@ module _ (o : Opening) (count : ℕ) (count_is : count ≡ count_of o) (some : 1
 
   refused : (faults : ℕ) → Refused (BlockRead o.disk o.idsig.first count) [] x y → DeviceOpens o x y (Err (fault.Failed faults))
   refused faults r = record {
-    right = λ h head m honest held holds.
+    right = λ h head m calm held holds.
         let after = held_refused _ _ x y h held r in
-        (r.honest ∙ honest, after.0, absurd (not_both _ _ (after.1 honest) (served h head m holds)));
+        (after.0, absurd (calm_served _ _ x y h _ held r calm (served h head m holds)));
   }
 
   unheard : Unheard x y → DeviceOpens o x y (Err fault.Memory)
-  unheard u = record { right = λ h head m honest held holds. (u.talked.honest ∙ honest, held_unheard x y h held u, refl) }
+  unheard u = record { right = λ h head m calm held holds. (held_unheard x y h held u, refl) }
 
   pub failed_right : (raw : List ℕ) (e : HostError) → e ≡ Failed
       → Asked {T = Unit {0}} (BlockRead o.disk o.idsig.first count) [] (λ _. Bytes raw) (Err e) x y
@@ -63,11 +63,11 @@ module _ (o : Opening) (count : ℕ) (count_is : count ≡ count_of o) (some : 1
   pub answered_right : IdsigsAreRead → (raw : List ℕ) (r : Result Device ApkFault) → Answered (BlockRead o.disk o.idsig.first count) [] (Bytes raw) x y
       → r ≡ opened o raw → DeviceOpens o x y r
   answered_right read raw r a is = record {
-    right = λ h head m honest held holds.
+    right = λ h head m calm held holds.
         let device : Device = record { measure = m; layout = Parts o.disk o.apk.first (512 * o.idsig.first + head.tree_at) } in
         let after = held_answered _ _ _ x y h held a in
         let same = same_answer (take (512 * count_of o) holds.part) raw h after.0 _ (served h head m holds) after.2 in
         let whole : r ≡ Ok device =
         is ∙ ap (opened o) same.0 ∙ part_opens read o holds.part head m holds.whole holds.idsig holds.measure holds.tree in
-        (a.honest ∙ honest, after.1 ∙ ap Some same.1, subst (λ (z : Result Device ApkFault). OpensAs device z) (sym whole) refl);
+        (after.1 ∙ ap Some same.1, subst (λ (z : Result Device ApkFault). OpensAs device z) (sym whole) refl);
   }

@@ -1,8 +1,9 @@
--- What is opened where an honest host holds the idsig in its part: its device, or nothing for want of memory.
-use Rattle.std.specs.Prelude.{true, ◌≡◌, ℕ, ◌+◌, ◌*◌, List, length, take, drop, Some, Result, Ok, Err}
+-- What is opened where a host holds the idsig in its part, and no call failed or the host is honest: its device, or nothing for
+-- want of memory.
+use Rattle.std.specs.Prelude.{◌≡◌, ℕ, ◌+◌, ◌*◌, List, length, take, drop, Some, Result, Ok, Err}
 use Rattle.mg_base.specs.declared.values.Span.{Span}
 use Rattle.host_traits.specs.Held.{Held, Disk}
-use Rattle.host_traits.specs.Told.{Told}
+use Rattle.host_traits.specs.Told.{Told, Calm}
 use Rattle.sha_tree.specs.declared.measure.Measure.{Measure}
 use Rattle.sha_tree.specs.Tree.{tree_pages}
 use Rattle.verity_path.specs.declared.device.Device.{Device}
@@ -30,8 +31,9 @@ abbrev pub OpensAs : Device → Result Device ApkFault → Type 0
 OpensAs device (Ok d) = d ≡ device
 OpensAs device (Err why) = why ≡ fault.Memory
 
--- Where an honest host held such a part, its device was opened, and the host holds afterwards what it held.
+-- Where a host held such a part, and no call failed or the host is honest, its device was opened, and the host holds afterwards
+-- what it held.
 pub record DeviceOpens (o : Opening) (old new : Told) (result : Result Device ApkFault) : Type 0 where
-  pub right : (h : Held) (head : Head) (m : Measure) → old.honest ≡ true → old.held ≡ Some h → HoldsIdsig h o head m
-      → (new.honest ≡ true) × (new.held ≡ Some h)
+  pub right : (h : Held) (head : Head) (m : Measure) → Calm old new → old.held ≡ Some h → HoldsIdsig h o head m
+      → (new.held ≡ Some h)
       × OpensAs (record { measure = m; layout = Parts o.disk o.apk.first (512 * o.idsig.first + head.tree_at) }) result

@@ -158,7 +158,7 @@ pub fn open_apk<H: Host>(
     ensures opened { Did (IsIdsigCall (opening disk apk idsig (option_copied measure.entry))) 1
         (H.told host.old) (H.told host.new)
         (OpenOutcome (opening disk apk idsig (option_copied measure.entry)) result) }
-    // Over an honest host that holds the idsig, the device or want of memory.
+    // Over a host that holds the idsig, where no call failed or it is honest, the device or want of memory.
     ensures held { DeviceOpens (opening disk apk idsig (option_copied measure.entry))
         (H.told host.old) (H.told host.new) result }
     // A measure that has to be met is the device's.

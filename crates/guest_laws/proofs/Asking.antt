@@ -1,11 +1,12 @@
--- The calls of boot: they change nothing that is held, and over an honest host none fails that what is held can serve.
+-- The calls of boot: they change nothing that is held, and where no count rose or the host is honest none fails that what is held
+-- can serve.
 use Rattle.std.proofs.Common.{◌≡◌, ◌<◌, ◌+◌, ◌-◌, ◌∙◌, ℕ, zero, suc, Bool, true, List, [], ◌∷◌, ◌++◌, Option, Some, None, refl, ap, sym, subst, inl, inr, arith}
 use Rattle.std.specs.Prelude.{min}
 use Rattle.host_traits.specs.declared.calls.Call.{Call}
 use Rattle.host_traits.specs.declared.calls.Call.TheVariants.{BlockSize, BlockRead, Descriptor}
 use Rattle.host_traits.specs.declared.calls.Said.{Said}
 use Rattle.host_traits.specs.Held.{Held, serve, found}
-use Rattle.host_traits.specs.Told.{Told, Exchanges, Made, Talked, Serves, ServesAll, HeldAfter, exchange_of, heard_of, failures_of, one_failure, last_after, failed_by}
+use Rattle.host_traits.specs.Told.{Told, Calm, Exchanges, Made, Talked, Serves, ServesAll, HeldAfter, exchange_of, heard_of, failures_of, one_failure, last_after, failed_by}
 use Rattle.host_traits.specs.Did.{IsIn, Each, reads}
 use Rattle.host_traits.proofs.Doing.{in_both}
 use Rattle.guest_plan.specs.declared.plan.PlanLine.{PlanLine}
@@ -110,10 +111,11 @@ refused_last (m ∷ own) h k before call s each some last =
 not_both : (a : Said × Held) (o : Option (Said × Held)) → o ≡ None → o ≡ Some a → ⊥
 not_both a o e f = cc
 
--- over an honest host, a call that what is held can serve is not the last that failed, where one did
-pub not_failed : (a b : Told) (own : List Made) (h : Held) (call : Call) (said : Said) → Talked a b own → a.held ≡ Some h → a.honest ≡ true → Each (reads IsBootCall) own
+-- a call that what is held can serve is not the last that failed, where one did
+pub not_failed : (a b : Told) (own : List Made) (h : Held) (call : Call) (said : Said) → Talked a b own → a.held ≡ Some h → Calm a b → Each (reads IsBootCall) own
     → failures_of own ≡ 1 → b.last_failed ≡ Some call → serve h call [] ≡ Some (said, h) → ⊥
-not_failed a b own h call said talked told honest each one last serves =
+not_failed a b own h call said talked told (inl quiet) each one last serves = quiet (omega (arith, one, talked.counted))
+not_failed a b own h call said talked told (inr honest) each one last serves =
     let held = subst (λ (z : Bool). HeldAfter z a.held own b.held) honest talked.held in
     let after = subst (λ (o : Option Held). HeldAfter true o own b.held) told held in
     let some : 0 < failures_of own = omega (arith, one) in

@@ -1,4 +1,4 @@
--- A boot over an honest host that holds what each line needs.
+-- A boot over a host that holds what each line needs.
 use Rattle.std.proofs.Common.{◌≡◌, ℕ, zero, suc, ◌-◌, ◌^◌, ◌<◌, ◌∙◌, Bool, true, false, cond, List, [], ◌∷◌, ◌++◌, filter, length, Option, Some, Result, Ok, Err, refl, ap, sym, subst, inl, inr, arith}
 use Rattle.std.specs.Prelude.{slice_get, IfErr}
 use Rattle.host_traits.specs.declared.calls.Call.{Call}
@@ -63,7 +63,7 @@ module _ (lines : List PlanLine) (numbers : List ℕ) (world : World) (h : Held)
   line_passes before (line.Blob file m) after first rest mid why are cut booted fails = blob_passes why fails.1
   line_passes before (line.Apk disk apk idsig how) after first rest mid why are cut booted fails =
       let l : PlanLine = line.Apk disk apk idsig how in
-      let f = fits.apks (length (filter makes_item before)) disk apk idsig how (subst (λ (z : List PlanLine). item_line z (length (filter makes_item before)) ≡ Some l) (sym are) (item_at before l after refl)) in
+      let f = fits.items (length (filter makes_item before)) l (subst (λ (z : List PlanLine). item_line z (length (filter makes_item before)) ≡ Some l) (sym are) (item_at before l after refl)) in
       let truly : AreTrue h disk t.own = λ call said i of. heard call said i in
       let read = true_table h disk apk idsig how f.measure f.bytes f.holds in
       let known = knows_all h disk f.holds.table read before nothing mid first booted (knows_none disk f.holds.table) (true_left h disk t.own first rest cut truly) in
@@ -88,11 +88,10 @@ pub lines_call : (lines : List PlanLine) (own : List Made) → Each (reads (IsFo
 lines_call lines own each = each_so (reads (IsForLines lines)) (reads IsBootCall) own (λ call given p. (boot_call p.0.line call p.0.for, p.1)) each
 
 pub boots_pass : BootsPass
-boots_pass lines numbers world old new result h did told honest fits =
-    let held = subst (λ (z : Bool). HeldAfter z old.held did.own new.held) honest did.talked.held in
-    let after = subst (λ (o : Option Held). HeldAfter true o did.own new.held) told held in
+boots_pass lines numbers world old new result h did told calm fits =
+    let after = subst (λ (o : Option Held). HeldAfter old.honest o did.own new.held) told did.talked.held in
     let calls = lines_call lines did.own did.calls in
-    let boot = boot_held true did.own h after.0 after.2 calls in (
-      outcome_passes lines numbers world h fits (trace_of (heard_of did.own) (failures_of did.own) old new) boot.1 (λ call said one last serves. not_failed old new did.own h call said did.talked told honest calls one last serves) result did.outcome,
+    let boot = boot_held old.honest did.own h after.0 after.2 calls in (
+      outcome_passes lines numbers world h fits (trace_of (heard_of did.own) (failures_of did.own) old new) boot.1 (λ call said one last serves. not_failed old new did.own h call said did.talked told calm calls one last serves) result did.outcome,
       after.1 ∙ ap (λ (z : Held). Some z) boot.0,
     )

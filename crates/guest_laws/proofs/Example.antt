@@ -13,7 +13,7 @@ use Rattle.guest_plan.specs.declared.plan.How.{How}
 use Rattle.guest_plan.specs.declared.plan.PlanLine.{PlanLine}
 use Rattle.guest_plan.specs.declared.plan.PlanLine.TheVariants as line
 use Rattle.guest_rules.specs.Machine.{World}
-use Rattle.guest_laws.specs.Fitting.{Fits, FitsBlob, item_line}
+use Rattle.guest_laws.specs.Fitting.{Fits, FitsBlob, FitsItem, item_line}
 use Rattle.guest_laws.proofs.Lines.{same_line}
 
 is_page : (count level i : ℕ) → 0 < level → level ≤ top count → i < pages_at count level → is_tree_page count level i ≡ true
@@ -51,17 +51,9 @@ module _ (content : List ℕ) (len : length content ≡ 8192) where
     holds = record { file = verity_file content []; there = refl; size_is = omega (arith, len); bytes = bytes_held; tree = tree_held };
   }
 
-  abbrev IsHeldBlob : Option (List ℕ) → PlanLine → Type 0
-  IsHeldBlob o (line.Blob file m) = FitsBlob held o file m
-  IsHeldBlob o other = Unit {0}
-
-  blob_at : (k file : ℕ) (m : Measure) → item_line plan k ≡ Some (line.Blob file m) → FitsBlob held (world k) file m
-  blob_at zero file m at = subst (IsHeldBlob (Some content)) (same_line (line.Blob 1 measure) (line.Blob file m) at) blob_held
-  blob_at (suc k) file m at = absurd cc
-
-  no_apk : (k disk : ℕ) (apk idsig : List ℕ) (how : How) → item_line plan k ≡ Some (line.Apk disk apk idsig how) → ⊥
-  no_apk zero disk apk idsig how at = let same = same_line (line.Blob 1 measure) (line.Apk disk apk idsig how) at in cc
-  no_apk (suc k) disk apk idsig how at = cc
+  item_held : (k : ℕ) (l : PlanLine) → item_line plan k ≡ Some l → FitsItem held (world k) l
+  item_held zero l at = subst (FitsItem held (Some content)) (same_line (line.Blob 1 measure) l at) blob_held
+  item_held (suc k) l at = absurd cc
 
   no_file : (k : ℕ) (name : List ℕ) (file : ℕ) (digest : Digest) → slice_get plan k ≡ Some (line.File name file digest) → ⊥
   no_file zero name file digest at = let same = same_line (line.Blob 1 measure) (line.File name file digest) at in cc
@@ -70,8 +62,7 @@ module _ (content : List ℕ) (len : length content ≡ 8192) where
   -- the host of that one line holds what the plan needs
   pub blob_fits : Fits plan world held
   blob_fits = record {
-    blobs = blob_at;
-    apks = λ k disk apk idsig how at. absurd (no_apk k disk apk idsig how at);
+    items = item_held;
     files = λ k name file digest at. absurd (no_file k name file digest at);
   }
 

@@ -10,6 +10,7 @@ use Rattle.host_traits.specs.Told.{Exchanges}
 use Rattle.host_traits.specs.Did.{IsIn}
 use Rattle.sha_tree.specs.declared.measure.Measure.{Measure}
 use Rattle.sha_tree.specs.Tree.{tree_pages, stored_tree}
+use Rattle.sha_tree.specs.Measured.{IsMeasured}
 use Rattle.verity_path.specs.declared.device.Device.{Device}
 use Rattle.verity_path.specs.declared.walk.Layout.TheVariants.{Parts}
 use Rattle.gpt.specs.declared.values.Table.{Table}
@@ -21,7 +22,7 @@ use Rattle.apk_verity.specs.Opening.{Opening, opening, idsig_call, count_of, mea
 use Rattle.guest_plan.specs.declared.plan.How.{How}
 use Rattle.guest_boot.specs.Finding.{ReadsTable, HasTable, TableOn, table_on, parts_in}
 use Rattle.guest_boot.specs.Booting.{Booted, ApkBoots, measure_in}
-use Rattle.guest_rules.specs.Faithful.{HoldsParts}
+use Rattle.verity_path.specs.Holding.{HoldsParts}
 use Rattle.guest_laws.specs.Fitting.{HoldsApk, AreTrue}
 use Rattle.guest_laws.proofs.Heard.{sectors_served, table_held}
 use Rattle.guest_laws.proofs.Heads.{head_read, tree_inside, made}
@@ -81,8 +82,8 @@ module _ (h : Held) (disk : ℕ) (apk idsig : List ℕ) (how : How) (m : Measure
   has_it None own u known heard has = true_table own u heard has
   has_it (Some v) own u known heard has = has.1 ∙ known v refl
 
-  pub boots_held : (s new : Booted) (own : Exchanges) (b : ApkBoots s disk apk idsig how own new) → Knows disk holds.table s.tables → AreTrue h disk own → IsHeldAt h disk b.device m content
-  boots_held s new own b known heard =
+  pub boots_held : (s new : Booted) (own : Exchanges) (b : ApkBoots s disk apk idsig how own new) → Knows disk holds.table s.tables → AreTrue h disk own → IsMeasured b.device.measure content → IsHeldAt h disk b.device m content
+  boots_held s new own b known heard measured =
       let f = b.found in
       let table : f.table ≡ holds.table = has_it (table_on disk s.tables) b.first f.table known (true_left h disk own b.first _ b.cut heard) f.has in
       let parts : b.parts ≡ (holds.first, holds.second) = parts_are b.parts _ (sym f.parts_are ∙ ap (λ (z : Table). parts_in z apk idsig) table ∙ holds.parts) in
@@ -113,7 +114,8 @@ module _ (h : Held) (disk : ℕ) (apk idsig : List ℕ) (how : How) (m : Measure
         holds = record {
           disk = holds.on;
           there = holds.there;
-          whole = omega (arith, holds.whole);
+          sectors = omega (arith, holds.whole);
+          whole = measured.size;
           blocks = ap (λ (z : Measure). take (4096 * z.blocks) (drop (512 * holds.first.first) holds.on.bytes)) measure ∙ holds.content_is;
           tree = ap (λ (n : ℕ). take n (drop at holds.on.bytes)) (sym same ∙ len) ∙ holds.tree ∙ ap (λ (z : Measure). stored_tree content z.salt) (sym measure);
         };

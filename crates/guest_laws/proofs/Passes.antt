@@ -1,4 +1,4 @@
--- Why no line fails over an honest host that holds what it needs.
+-- Why no line fails over a host that holds what it needs, where no call that this can serve failed.
 use Rattle.std.proofs.Common.{◌≡◌, ℕ, ◌+◌, ◌-◌, ◌*◌, ◌<◌, ◌≤◌, ◌∙◌, min, List, [], ◌∷◌, ◌++◌, length, take, drop, Option, Some, None, Result, Ok, Err, refl, ap, sym, subst, inl, inr, arith}
 use Rattle.std.specs.Prelude.{string_bytes}
 use Rattle.std.proofs.lemmas.List.{length-take, length-drop, take-take, take_all, length-append, length-replicate}
@@ -38,7 +38,6 @@ use Rattle.guest_boot.specs.declared.faults.BootCause.{BootCause}
 use Rattle.guest_boot.specs.declared.faults.BootCause.TheVariants.{Gpt, NoPart, Apk, File as FileCause, Failed, Short, Memory}
 use Rattle.guest_boot.specs.Finding.{TableNext, table_on, parts_in}
 use Rattle.guest_boot.specs.Booting.{Booted, measure_in, later_of, ApkIsRefused, ApkFails, FileFails}
-use Rattle.guest_rules.specs.Faithful.{HoldsFile}
 use Rattle.guest_rules.proofs.Holding.{pair_is}
 use Rattle.guest_laws.specs.Fitting.{HoldsApk, HoldsReadOnly, AreTrue}
 use Rattle.guest_laws.proofs.Heard.{bytes_is, sectors_served, sectors_serve, not_refused, not_short, next_serves}

@@ -1,4 +1,4 @@
--- A session over an honest host that holds what the plan needs.
+-- A session over an honest host that holds what the plan's lines need.
 use Rattle.std.proofs.Common.{◌≡◌, ◌+◌, ◌∙◌, ℕ, zero, suc, Bool, true, false, cond, List, [], ◌∷◌, ◌++◌, filter, length, Option, Some, None, refl, ap, sym, subst, inl, inr, ⊎_elim, append_assoc, append-nil, arith}
 use Rattle.std.specs.Prelude.{slice_get}
 use Rattle.std.specs.List.{AllByRecursion}
@@ -28,7 +28,7 @@ use Rattle.guest_plan.proofs.Whole.{plan_takes}
 use Rattle.guest_cli.specs.Booted.{BootsOver}
 use Rattle.guest_cli.specs.Serve.{before, Recorded}
 use Rattle.guest_cli.proofs.Booting.{plan_served}
-use Rattle.guest_laws.specs.Fitting.{Fits, makes_item, item_line}
+use Rattle.guest_laws.specs.Fitting.{Fits, FitsItem, item_line}
 use Rattle.guest_laws.specs.Sessions.{IsServedIn, SessionsAreServed, BootsAreServed}
 use Rattle.guest_laws.proofs.Asking.{AreHeld, boot_held, not_failed}
 use Rattle.guest_laws.proofs.Boots.{lines_call, fault_passes}
@@ -67,24 +67,10 @@ record IsKept (h : Held) (world : World) (items : List Device) (k : ℕ) : Type 
   content_is : world k ≡ Some content
   holds : HoldsDevice h it content
 
-one_makes : (b : Bool) (x : PlanLine) (ys : List PlanLine) (k : ℕ) (l : PlanLine) → makes_item x ≡ b → ((j : ℕ) → slice_get ys j ≡ Some l → makes_item l ≡ true)
-    → slice_get (cond b (x ∷ ys) ys) k ≡ Some l → makes_item l ≡ true
-one_makes true x ys zero l is rest e = subst (λ (z : PlanLine). makes_item z ≡ true) (same_line x l e) is
-one_makes true x ys (suc k) l is rest e = rest k e
-one_makes false x ys k l is rest e = rest k e
-
-item_makes : (lines : List PlanLine) (k : ℕ) (l : PlanLine) → item_line lines k ≡ Some l → makes_item l ≡ true
-item_makes [] k l e = absurd cc
-item_makes (x ∷ lines) k l e = one_makes (makes_item x) x (filter makes_item lines) k l refl (λ j is. item_makes lines j l is) e
-
-not_item : (lines : List PlanLine) (k : ℕ) (l : PlanLine) → item_line lines k ≡ Some l → makes_item l ≡ false → ⊥
-not_item lines k l e none = let some = item_makes lines k l e in cc
-
 module _ (lines : List PlanLine) (h : Held) (world : World) (booted heard : Exchanges) (served : AreServed lines) (new : Booted) (boots : Boots nothing lines booted new) (true_to : AreHeld h booted)
-    (w : IsWorld new.items world heard) (fits : Fits lines world h) where
-  line_kept : (l : PlanLine) (k : ℕ) → item_line lines k ≡ Some l → IsKept h world new.items k
-  line_kept (line.Blob file m) k at =
-      let f = fits.blobs k file m at in
+    (w : IsWorld new.items world heard) where
+  line_kept : (l : PlanLine) (k : ℕ) → item_line lines k ≡ Some l → FitsItem h (world k) l → IsKept h world new.items k
+  line_kept (line.Blob file m) k at f =
       let said = served_line lines k (line.Blob file m) served at in
       let i = device_is_item file m said.1 in
       record {
@@ -95,14 +81,10 @@ module _ (lines : List PlanLine) (h : Held) (world : World) (booted heard : Exch
         content_is = f.content_is;
         holds = f.holds;
       }
-  line_kept (line.Apk disk apk idsig how) k at =
-      let f = fits.apks k disk apk idsig how at in
+  line_kept (line.Apk disk apk idsig how) k at f =
       let a = apk_kept lines booted heard new world h k f.bytes disk apk idsig how f.measure boots served at f.content_is w f.holds (λ call said i of. true_to call said i) in
       record { it = a.it; at = a.at; item = a.item; content = f.bytes; content_is = f.content_is; holds = a.holds }
-  line_kept (line.File name file digest) k at = absurd (not_item lines k (line.File name file digest) at refl)
-  line_kept (line.Instance disk part) k at = absurd (not_item lines k (line.Instance disk part) at refl)
-  line_kept (line.Write name file) k at = absurd (not_item lines k (line.Write name file) at refl)
-  line_kept (line.WriteDir name file) k at = absurd (not_item lines k (line.WriteDir name file) at refl)
+  line_kept other k at f = absurd f
 
 -- ---- a run over what is held
 
@@ -138,9 +120,9 @@ module _ (items : List Device) (world : World) where
       let rest = run_heard r.0 turns new r.3 in
       (heard_of turn.own ++ rest.0, rest.1 ∙ ap (λ (x : Exchanges). x ++ rest.0) r.2.heard ∙ append_assoc old.heard (heard_of turn.own) rest.0)
 
-  module _ (lines : List PlanLine) (h : Held) (kept : (k : ℕ) (l : PlanLine) → item_line lines k ≡ Some l → IsKept h world items k) where
+  module _ (lines : List PlanLine) (h : Held) (kept : (k : ℕ) (l : PlanLine) → item_line lines k ≡ Some l → FitsItem h (world k) l → IsKept h world items k) where
     run_served : (turns : List Turn) (old new : Moment) → Run items world old turns new → old.told.held ≡ Some h → old.told.honest ≡ true → IsWorld items world new.heard → old.told.scarce ≡ true
-        → AllByRecursion (IsServedIn lines world) turns
+        → AllByRecursion (IsServedIn lines world h) turns
     run_served [] old new run told honest w scarce = tt
     run_served (turn ∷ turns) old new run told honest w scarce =
         let mid : Moment = run.0 in
@@ -148,8 +130,8 @@ module _ (items : List Device) (world : World) where
         let later = run_heard mid turns new run.3 in
         let here : IsWorld items world mid.heard = world_less mid.heard later.0 (subst (λ (x : Exchanges). IsWorld items world x) later.1 w) in
         let wants : mid.told.scarce ≡ true = step.talked.scarce ∙ scarce in (
-          λ r l content request at is.
-              let d = kept r.item l at in
+          λ r l content request at fits is.
+              let d = kept r.item l at fits in
               let served = (all_served items world old turn mid h r d.it d.content step request d.at d.item d.content_is here told d.holds (inr honest)).0 in
               let same : d.content ≡ content = some_is d.content content (sym d.content_is ∙ is) in
               subst (λ (z : List ℕ). IsDefined r z true turn.sent turn.cause) same (subst (λ (b : Bool). IsDefined r d.content b turn.sent turn.cause) wants served),
@@ -158,22 +140,22 @@ module _ (items : List Device) (world : World) where
 
 module _ (lines : List PlanLine) (h : Held) (mid : Told) (booted : List Made) (items : List Device) (entropy : List ℕ) (calls : List Call) (records : List TapeItem) (finish : Told) (turns : List Turn) (world : World) where
   turns_served : AreServed lines → BootsOver lines (before h) mid booted items → Recorded items entropy booted mid calls records finish turns
-      → IsWorld items world (heard_of booted ++ heard_of (calls_of turns)) → Fits lines world h → AllByRecursion (IsServedIn lines world) turns
-  turns_served served over r w fits =
+      → IsWorld items world (heard_of booted ++ heard_of (calls_of turns)) → AllByRecursion (IsServedIn lines world h) turns
+  turns_served served over r w =
       let opens = over.opens in
       let told = over.talked.held in
       let boot = boot_held true booted h told.0 told.2 (lines_call lines booted over.calls) in
       let mid_held : mid.held ≡ Some h = told.1 ∙ ap (λ (z : Held). Some z) boot.0 in
       let all : Exchanges = heard_of booted ++ heard_of (calls_of turns) in
-      let kept : (k : ℕ) (l : PlanLine) → item_line lines k ≡ Some l → IsKept h world items k = λ k l at.
-      line_kept lines h world (heard_of booted) all served (record { tables = opens.tables; items = items; files = over.files }) opens.boots boot.1 w fits l k at in
+      let kept : (k : ℕ) (l : PlanLine) → item_line lines k ≡ Some l → FitsItem h (world k) l → IsKept h world items k = λ k l at fits.
+      line_kept lines h world (heard_of booted) all served (record { tables = opens.tables; items = items; files = over.files }) opens.boots boot.1 w l k at fits in
       run_served items world lines h kept turns (moment (record { entropy = entropy }) mid (heard_of booted)) (moment r.state finish all) (r.run world w) mid_held over.talked.honest w over.talked.scarce
 
 pub sessions_served : SessionsAreServed
-sessions_served files plan store entropy old new ended s turns world r w fits =
+sessions_served files plan store entropy old new ended s turns world r w =
     let planned = s.made.planned in
     let served = plan_served planned.text planned.plan (plan_takes planned.text planned.plan planned.is) in
-    turns_served planned.plan.lines s.made.stock.held s.mid s.booted s.items s.bytes s.calls s.records s.finish turns world served s.boots r w fits
+    turns_served planned.plan.lines s.made.stock.held s.mid s.booted s.items s.bytes s.calls s.records s.finish turns world served s.boots r w
 
 -- ---- a boot that failed
 
@@ -186,4 +168,4 @@ boots_served files plan store entropy fault world u fits =
     let told = f.talked.held in
     let calls = lines_call k.lines f.own f.calls in
     let boot = boot_held true f.own h told.0 told.2 calls in
-    f.other (fault_passes k.lines k.numbers world h fits (trace_of (heard_of f.own) (failures_of f.own) start f.finish) boot.1 (λ call said one last serves. not_failed start f.finish f.own h call said f.talked refl refl calls one last serves) fault f.is)
+    f.other (fault_passes k.lines k.numbers world h fits (trace_of (heard_of f.own) (failures_of f.own) start f.finish) boot.1 (λ call said one last serves. not_failed start f.finish f.own h call said f.talked refl (inr refl) calls one last serves) fault f.is)

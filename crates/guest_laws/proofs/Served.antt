@@ -1,20 +1,27 @@
 -- A read of the device of an `apk` line.
-use Rattle.std.proofs.Common.{◌≡◌, ℕ, List, Some, sym, subst, arith}
-use Rattle.std.specs.Prelude.{slice_get}
+use Rattle.std.proofs.Common.{◌≡◌, ℕ, ◌×◌, List, Option, None, Some, refl, sym, subst, inl, inr, ⊎_elim, arith}
+use Rattle.std.specs.Prelude.{◌⊎◌, slice_get}
 use Rattle.host_traits.specs.Held.{Held}
-use Rattle.host_traits.specs.Told.{Exchanges}
+use Rattle.host_traits.specs.Told.{Exchanges, failures_of}
+use Rattle.host_traits.specs.Did.{Trace}
+use Rattle.session_frames.specs.Replies.{Sent, sent_code}
 use Rattle.sha_tree.specs.declared.measure.Measure.{Measure}
+use Rattle.verity_path.specs.Holding.{HoldsAt}
+use Rattle.verity_path.specs.declared.device.Cause.{Cause}
+use Rattle.verity_path.specs.declared.device.Cause.TheVariants as cause
 use Rattle.verity_path.specs.declared.device.Device.{Device}
 use Rattle.verity_path.specs.declared.walk.Layout.{Layout}
 use Rattle.guest_plan.specs.declared.plan.How.{How}
 use Rattle.guest_plan.specs.declared.plan.PlanLine.{PlanLine}
 use Rattle.guest_plan.specs.declared.plan.PlanLine.TheVariants as line
 use Rattle.guest_boot.specs.Booting.{AreServed, Booted, Boots, nothing}
-use Rattle.guest_rules.specs.Machine.{World, IsItem}
+use Rattle.guest_rules.specs.Machine.{World, Moment, Turn, ItemRead, Request, State, IsItem, read_of, request_of}
+use Rattle.guest_rules.specs.ItemRow.{ItemRow, no_item, too_large, served, blamed, no_memory}
+use Rattle.guest_rules.specs.Step.{Step, Row, trace}
 use Rattle.guest_rules.specs.Run.{IsWorld}
-use Rattle.guest_rules.specs.Faithful.{HoldsAt, HoldsDevice}
+use Rattle.guest_rules.specs.Faithful.{HoldsDevice}
 use Rattle.guest_rules.proofs.Serving.{defined_over}
-use Rattle.guest_laws.specs.Fitting.{ApkReadsAreServed, AreTrue, HoldsApk, item_line}
+use Rattle.guest_laws.specs.Fitting.{ApkReadsAreServed, AreTrue, HasFailed, HoldsApk, item_line}
 use Rattle.guest_laws.proofs.Calls.{read_serves}
 use Rattle.guest_laws.proofs.Fits.{IsHeldAt, true_table, boots_held}
 use Rattle.guest_laws.proofs.Items.{served_line, blocks_in, item_is}
@@ -34,7 +41,7 @@ pub apk_kept : (lines : List PlanLine) (booted heard : Exchanges) (new : Booted)
 apk_kept lines booted heard new world h k content disk apk idsig how m boots served at_k is w holds booted_true =
     let found = at_line h disk holds.table (true_table h disk apk idsig how m content holds) apk idsig how lines nothing new booted k k boots (knows_none disk holds.table) booted_true at_k (omega arith) in
     let it : Device = found.boots.device in
-    let held = boots_held h disk apk idsig how m content holds found.old found.new found.own found.boots found.known found.heard in
+    let held = boots_held h disk apk idsig how m content holds found.old found.new found.own found.boots found.known found.heard (w.measured k it content found.is is) in
     let said = served_line lines k (line.Apk disk apk idsig how) served at_k in
     record {
       it = it;
@@ -44,9 +51,29 @@ apk_kept lines booted heard new world h k content disk apk idsig how m boots ser
       holds = subst (λ (l : Layout). HoldsAt h l it.measure content) (sym held.layout) held.holds;
     }
 
+-- a call failed only where it is the cause
+row_fails : (items : List Device) (world : World) (t : Trace) (r : ItemRead) (sent : Sent) (why : Option Cause) → ItemRow items world t r sent why
+    → (t.failed ≡ 0) ⊎ ((t.failed ≡ 1) × (sent ≡ sent_code 1 5) × (faults : ℕ) × (why ≡ Some (cause.Failed faults)))
+row_fails items world t r _ _ (no_item beyond calm own) = inl calm
+row_fails items world t r _ _ (too_large there large calm own) = inl calm
+row_fails items world t r _ _ (served it bytes at small calm slice) = inl calm
+row_fails items world t r _ _ (blamed it (cause.Mismatch x) at small blame) = inl blame.failed
+row_fails items world t r _ _ (blamed it (cause.Short asked got) at small blame) = inl blame.failed
+row_fails items world t r _ _ (blamed it (cause.Failed faults) at small blame) = inr (blame.failed, refl, faults, refl)
+row_fails items world t r _ _ (no_memory there small scarce) = inl scarce.failed
+
+turn_fails : (items : List Device) (world : World) (old : Moment) (turn : Turn) (new : Moment) (r : ItemRead) → Step items world old turn new
+    → request_of turn.frame ≡ read_of r → (failures_of turn.own ≡ 0) ⊎ HasFailed turn
+turn_fails items world old turn new r step request =
+    let row : Row items world (trace old turn new) (read_of r) old.state new.state turn.sent turn.cause =
+    subst (λ (q : Request). Row items world (trace old turn new) q old.state new.state turn.sent turn.cause) request step.row in
+    ⊎_elim (λ none. inl none) (λ f. inr (record { one = f.0; sent = f.1; faults = f.2; cause = f.3 }))
+    (row_fails items world (trace old turn new) r turn.sent turn.cause row.1)
+
 pub apk_reads_served : ApkReadsAreServed
-apk_reads_served lines booted items files world old turn new h r content disk apk idsig how m opens served step request at_k is w holds booted_true read_true calm =
+apk_reads_served lines booted items files world old turn new h r content disk apk idsig how m opens served step request at_k is w holds booted_true read_true =
     let a = apk_kept lines booted new.heard (record { tables = opens.tables; items = items; files = files }) world h r.item content disk apk idsig how m opens.boots served at_k is w holds booted_true in
     let held = a.held in
     let serves = read_serves items world old turn new h r a.it disk held.first held.tree step request a.at held.layout read_true in
-    defined_over items world old turn new h r a.it content step request a.at a.item is w serves a.holds calm
+    ⊎_elim (λ none. inl (defined_over items world old turn new h r a.it content step request a.at a.item is w serves a.holds none)) (λ f. inr f)
+    (turn_fails items world old turn new r step request)

@@ -1,5 +1,5 @@
 -- What a disk holds for an `apk` line, and what that says of the reads of its device.
-use Rattle.std.specs.Prelude.{◌≡◌, ◌+◌, ◌-◌, ◌*◌, ◌^◌, ◌<◌, ◌≤◌, ℕ, All, Bool, true, false, List, [], length, take, drop, filter, slice_get, Option, Some, Ok}
+use Rattle.std.specs.Prelude.{◌≡◌, ◌⊎◌, ◌+◌, ◌-◌, ◌*◌, ◌^◌, ◌<◌, ◌≤◌, ℕ, All, Bool, true, false, List, [], length, take, drop, filter, slice_get, Option, Some, Ok}
 use Rattle.mg_base.specs.declared.values.Span.{Span}
 use Rattle.host_traits.specs.declared.calls.Call.{Call}
 use Rattle.host_traits.specs.declared.calls.Call.TheVariants.{BlockSize, BlockRead}
@@ -12,7 +12,9 @@ use Rattle.sha_tree.specs.Measured.{IsMeasured}
 use Rattle.sha_tree.specs.Tree.{block_count, root, stored_tree}
 use Rattle.verity_descriptor.specs.Spelling.{descriptor_bytes}
 use Rattle.mg_base.specs.declared.values.Digest.{Digest}
+use Rattle.verity_path.specs.declared.device.Cause.TheVariants.{Failed}
 use Rattle.verity_path.specs.declared.device.Device.{Device}
+use Rattle.verity_path.specs.Holding.{HoldsFile}
 use Rattle.gpt.specs.declared.values.Table.{Table}
 use Rattle.gpt.specs.Grammar.{IsGpt}
 use Rattle.idsig_v4.specs.declared.head.Head.{Head}
@@ -25,10 +27,11 @@ use Rattle.ro_file.specs.Files.{MeasuredFile}
 use Rattle.ro_file.specs.Contents.{descriptor_of, IsFileMeasured}
 use Rattle.guest_boot.specs.Finding.{parts_in}
 use Rattle.guest_boot.specs.Booting.{AreServed, measure_in}
+use Rattle.session_frames.specs.Replies.{sent_code}
 use Rattle.guest_rules.specs.Machine.{World, Moment, Turn, ItemRead, request_of, read_of}
 use Rattle.guest_rules.specs.Step.{Step}
 use Rattle.guest_rules.specs.Run.{IsWorld}
-use Rattle.guest_rules.specs.Faithful.{HoldsFile, IsDefined}
+use Rattle.guest_rules.specs.Faithful.{IsDefined}
 use Rattle.guest_cli.specs.Booted.{Opens}
 
 -- ---- what a disk holds
@@ -96,11 +99,15 @@ pub record FitsFile (h : Held) (number : ℕ) (digest : Digest) : Type 0 where
   pub salt : List ℕ
   pub holds : HoldsReadOnly h number digest bytes salt
 
+-- what is held has what a line of an item needs, and the world its content
+abbrev pub FitsItem : Held → Option (List ℕ) → PlanLine → Type 0
+FitsItem h content (line.Blob file m) = FitsBlob h content file m
+FitsItem h content (line.Apk disk apk idsig how) = FitsApk h content disk apk idsig how
+FitsItem h content other = ⊥
+
 -- What is held has what each line of a plan needs, and the world each item's content.
 pub record Fits (lines : List PlanLine) (world : World) (h : Held) : Type 0 where
-  pub blobs : (k file : ℕ) (m : Measure) → item_line lines k ≡ Some (line.Blob file m) → FitsBlob h (world k) file m
-  pub apks : (k disk : ℕ) (apk idsig : List ℕ) (how : How) → item_line lines k ≡ Some (line.Apk disk apk idsig how)
-      → FitsApk h (world k) disk apk idsig how
+  pub items : (k : ℕ) (l : PlanLine) → item_line lines k ≡ Some l → FitsItem h (world k) l
   pub files : (k : ℕ) (name : List ℕ) (file : ℕ) (digest : Digest) → slice_get lines k ≡ Some (line.File name file digest)
       → FitsFile h file digest
 
@@ -116,15 +123,22 @@ IsOfDisk disk other = ⊥
 abbrev pub AreTrue : Held → ℕ → Exchanges → Type 0
 AreTrue h disk own = (call : Call) (said : Said) → IsIn call said own → IsOfDisk disk call → serve h call [] ≡ Some (said, h)
 
+-- a call of a turn failed, and its reply is 5, with that failure as its cause
+pub record HasFailed (turn : Turn) : Type 0 where
+  pub one : failures_of turn.own ≡ 1
+  pub sent : turn.sent ≡ sent_code 1 5
+  pub faults : ℕ
+  pub cause : turn.cause ≡ Some (Failed faults)
+
 -- A read of the device of an `apk` line of a plan in the grammar, in a world that meets the premises, and where what is held has
--- the item's content at the line: if the answers of boot for the line's disk and those of the read are what is held, and no call
--- of the read fails, the read has its defined reply. So a reply 5 comes only where a call failed, or where one of these answers,
--- those of boot among them, wasn't what the disk holds.
+-- the item's content at the line: if the answers of boot for the line's disk and those of the read are what is held, the read has
+-- its defined reply, or a call of it failed and is its cause. So a reply 5 with another cause comes only where one of these
+-- answers, those of boot among them, wasn't what the disk holds.
 abbrev pub ApkReadsAreServed : Type 0
 ApkReadsAreServed = (lines : List PlanLine) (booted : Exchanges) (items : List Device) (files : List MeasuredFile) (world : World) (old : Moment) (turn : Turn) (new : Moment)
     (h : Held) (r : ItemRead) (content : List ℕ) (disk : ℕ) (apk idsig : List ℕ) (how : How) (m : Measure)
     → Opens lines booted items files → AreServed lines → Step items world old turn new → request_of turn.frame ≡ read_of r
     → item_line lines r.item ≡ Some (line.Apk disk apk idsig how) → world r.item ≡ Some content
     → IsWorld items world new.heard → HoldsApk h disk apk idsig how m content
-    → AreTrue h disk booted → AreTrue h disk (heard_of turn.own) → failures_of turn.own ≡ 0
-    → IsDefined r content new.told.scarce turn.sent turn.cause
+    → AreTrue h disk booted → AreTrue h disk (heard_of turn.own)
+    → IsDefined r content new.told.scarce turn.sent turn.cause ⊎ HasFailed turn

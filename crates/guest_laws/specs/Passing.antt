@@ -1,8 +1,8 @@
--- A boot over an honest host.
-use Rattle.std.specs.Prelude.{true, ◌≡◌, ℕ, List, Some, Result, IfErr}
+-- A boot over a host that holds what the plan needs.
+use Rattle.std.specs.Prelude.{◌≡◌, ℕ, List, Some, Result, IfErr}
 use Rattle.host_traits.specs.Did.{Did}
 use Rattle.host_traits.specs.Held.{Held}
-use Rattle.host_traits.specs.Told.{Told}
+use Rattle.host_traits.specs.Told.{Told, Calm}
 use Rattle.guest_plan.specs.declared.plan.PlanLine.{PlanLine}
 use Rattle.guest_boot.specs.declared.faults.BootCause.TheVariants.{Memory}
 use Rattle.guest_boot.specs.declared.faults.BootFault.{BootFault}
@@ -12,10 +12,10 @@ use Rattle.guest_cli.specs.declared.boot.Machine.{Machine}
 use Rattle.guest_cli.specs.Booted.{BootedOutcome}
 use Rattle.guest_laws.specs.Fitting.{Fits}
 
--- Over an honest host that holds what each line of the plan needs, boot opens all lines, or there was no memory; and what is
--- held stays.
+-- Over a host that holds what each line of the plan needs, where no call of boot failed or the host is honest, boot opens all
+-- lines, or there was no memory; and what is held stays.
 abbrev pub BootsPass : Type 0
 BootsPass = (lines : List PlanLine) (numbers : List ℕ) (world : World) (old new : Told) (result : Result Machine BootFault) (h : Held)
     → Did (IsForLines lines) (most_of lines) old new (BootedOutcome lines numbers result)
-    → old.held ≡ Some h → old.honest ≡ true → Fits lines world h
+    → old.held ≡ Some h → Calm old new → Fits lines world h
     → IfErr result (λ fault. fault.why ≡ Memory) × (new.held ≡ Some h)

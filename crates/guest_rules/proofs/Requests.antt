@@ -2,7 +2,7 @@
 use Rattle.std.proofs.Common.{true, ◌≡◌, ℕ, zero, suc, ◌^◌, ◌<◌, List, [], ◌∷◌, ◌++◌, refl, ap, sym, ◌∙◌, subst, Option, Some, None, inl, inr, arith}
 use Rattle.std.specs.Prelude.{slice_get, ◌⊎◌}
 use Rattle.host_traits.specs.Held.{Held}
-use Rattle.host_traits.specs.Told.{Told, Exchanges, Rose, failures_of, heard_more, heard_of, heard_size}
+use Rattle.host_traits.specs.Told.{Told, Exchanges, Calm, failures_of, heard_more, heard_of, heard_size}
 use Rattle.session_frames.specs.Frames.{Framed}
 use Rattle.session_frames.specs.Replies.{Sent}
 use Rattle.verity_path.specs.declared.device.Cause.{Cause}
@@ -16,13 +16,13 @@ use Rattle.guest_rules.proofs.Calm.{none_of, all_served}
 
 applied : (items : List Device) (world : World) (s t : State) (a b : Told) (frame : Framed) (sent : Sent) (cause : Option Cause) (heard : Exchanges) (h : Held) (r : ItemRead) (it : Device) (content : List ℕ)
     → (step : Stepped items s t a b frame sent cause) → a.heard ≡ Some heard → heard_size heard < 2 ^ 30 → a.held ≡ Some h → request_of frame ≡ read_of r → slice_get items r.item ≡ Some it → IsItem it → world r.item ≡ Some content
-    → IsWorld items world (heard ++ heard_of step.own) → HoldsDevice h it content → (Rose a.faults b.faults → ⊥) ⊎ (a.honest ≡ true) → IsDefined r content b.scarce sent cause × (b.held ≡ Some h)
+    → IsWorld items world (heard ++ heard_of step.own) → HoldsDevice h it content → Calm a b → IsDefined r content b.scarce sent cause × (b.held ≡ Some h)
 applied items world s t a b frame sent cause heard h r it content step told few held request at item is w holds calm =
     let turn : Turn = record { frame = frame; own = step.own; sent = sent; cause = cause } in
     let in_world = runs_stand items world (moment s a heard) (turn ∷ []) (moment t b (heard ++ heard_of step.own)) w (moment t b (heard ++ heard_of step.own), few, step.step heard told, refl) in
     let one : Step items world (moment s a heard) turn (moment t b (heard ++ heard_of step.own)) = subst (λ m. Step items world (moment s a heard) turn m) in_world.3 in_world.2 in
     all_served items world (moment s a heard) turn (moment t b (heard ++ heard_of step.own)) h r it content one request at item is w held holds (calm_by calm) where
-      calm_by : (Rose a.faults b.faults → ⊥) ⊎ (a.honest ≡ true) → (failures_of step.own ≡ 0) ⊎ (a.honest ≡ true)
+      calm_by : Calm a b → (failures_of step.own ≡ 0) ⊎ (a.honest ≡ true)
       calm_by (inl stays) = inl (none_of (failures_of step.own) (λ some. let c = step.talked.counted in stays (omega (arith, some, c))))
       calm_by (inr honest) = inr honest
 

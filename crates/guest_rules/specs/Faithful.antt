@@ -1,39 +1,15 @@
 -- What a read of an item is answered where the host holds the item and no call fails.
 use Rattle.std.specs.Prelude.{Bool, true, ◌≡◌, ◌⊎◌, ℕ, ◌^◌, ◌*◌, ◌%◌, ◌<◌, ◌≤◌, List, length, take, drop, slice_get, Option, Some, None}
-use Rattle.host_traits.specs.Held.{Held, Disk, File}
-use Rattle.host_traits.specs.Told.{Told, Exchanges, Rose, failures_of, heard_size}
+use Rattle.host_traits.specs.Held.{Held}
+use Rattle.host_traits.specs.Told.{Told, Exchanges, Calm, failures_of, heard_size}
 use Rattle.session_frames.specs.Frames.{Framed}
 use Rattle.session_frames.specs.Replies.{Sent, sent_bytes, sent_code}
-use Rattle.sha_tree.specs.declared.measure.Measure.{Measure}
-use Rattle.sha_tree.specs.Tree.{page, pages_at, stored_tree, top, tree_pages}
 use Rattle.verity_path.specs.declared.device.Cause.{Cause}
 use Rattle.verity_path.specs.declared.device.Device.{Device}
-use Rattle.verity_path.specs.declared.walk.Layout.{Layout}
-use Rattle.verity_path.specs.declared.walk.Layout.TheVariants.{File as OnFile, Parts as InParts}
+use Rattle.verity_path.specs.Holding.{HoldsAt}
 use Rattle.guest_rules.specs.Machine.{World, Moment, Turn, ItemRead, request_of, read_of, IsItem}
 use Rattle.guest_rules.specs.Step.{Step}
 use Rattle.guest_rules.specs.Run.{IsWorld}
-
--- a file that is held has a content's bytes, as many as its layout says, and the pages of the content's tree
-pub record HoldsFile (h : Held) (number size : ℕ) (m : Measure) (content : List ℕ) : Type 0 where
-  pub file : File
-  pub there : h.file number ≡ Some file
-  pub size_is : size ≡ length content
-  pub bytes : file.bytes ≡ content
-  pub tree : (level i : ℕ) → 0 < level → level ≤ top m.blocks → i < pages_at m.blocks level → file.tree level i ≡ page content m.salt level i
-
--- a disk that is held has whole sectors, a content's blocks from a sector on, and its stored tree from a byte on
-pub record HoldsParts (h : Held) (number first at : ℕ) (m : Measure) (content : List ℕ) : Type 0 where
-  pub disk : Disk
-  pub there : h.disk number ≡ Some disk
-  pub whole : length disk.bytes % 512 ≡ 0
-  pub blocks : take (4096 * m.blocks) (drop (512 * first) disk.bytes) ≡ content
-  pub tree : take (4096 * tree_pages m.blocks) (drop at disk.bytes) ≡ stored_tree content m.salt
-
--- the one or the other, by the layout
-abbrev pub HoldsAt : Held → Layout → Measure → List ℕ → Type 0
-HoldsAt h (OnFile file size) m content = HoldsFile h file size m content
-HoldsAt h (InParts disk first tree) m content = HoldsParts h disk first tree m content
 
 -- what is held has a content and the pages of its tree at a device's places
 abbrev pub HoldsDevice : Held → Device → List ℕ → Type 0
@@ -60,5 +36,5 @@ ReadsAreServed = (items : List Device) (world : World) (old : Moment) (turn : Tu
 abbrev pub ReadIsServed : List Device → Told → Told → Framed → Sent → Option Cause → Type 0
 ReadIsServed items old new frame sent cause = (world : World) (heard now : Exchanges) (h : Held) (r : ItemRead) (it : Device) (content : List ℕ)
     → old.heard ≡ Some heard → heard_size heard < 2 ^ 30 → new.heard ≡ Some now → old.held ≡ Some h → request_of frame ≡ read_of r → slice_get items r.item ≡ Some it → IsItem it → world r.item ≡ Some content
-    → IsWorld items world now → HoldsDevice h it content → (Rose old.faults new.faults → ⊥) ⊎ (old.honest ≡ true)
+    → IsWorld items world now → HoldsDevice h it content → Calm old new
     → IsDefined r content new.scarce sent cause × (new.held ≡ Some h)

@@ -1,5 +1,5 @@
 -- A call that was made, over what is held.
-use Rattle.std.proofs.Common.{Bool, true, ◌≡◌, ℕ, ◌+◌, ◌*◌, ◌≤◌, List, [], ◌∷◌, length, take, drop, Option, Some, None, refl, ap, sym, ◌∙◌, subst, arith}
+use Rattle.std.proofs.Common.{Bool, true, inl, inr, ◌≡◌, ℕ, ◌+◌, ◌*◌, ◌≤◌, List, [], ◌∷◌, length, take, drop, Option, Some, None, refl, ap, sym, ◌∙◌, subst, arith}
 use Rattle.std.specs.Prelude.{nat_le}
 use Rattle.std.proofs.lemmas.Bool.Decides.{nat_tests}
 use Rattle.host_traits.specs.declared.calls.Call.{Call}
@@ -7,7 +7,7 @@ use Rattle.host_traits.specs.declared.calls.Call.TheVariants.{BlockRead, FileRea
 use Rattle.host_traits.specs.declared.calls.Said.{Said}
 use Rattle.host_traits.specs.declared.calls.Said.TheVariants.{Bytes}
 use Rattle.host_traits.specs.Held.{Held, Disk, File, serve}
-use Rattle.host_traits.specs.Told.{Told, Made, made_of, HeldAfter, Answered, Refused, Unheard}
+use Rattle.host_traits.specs.Told.{Told, Made, made_of, HeldAfter, Answered, Refused, Unheard, Calm}
 
 same_held : (h k : Held) → Some h ≡ Some k → h ≡ k
 same_held h k e = cc
@@ -45,6 +45,23 @@ same_answer a b h k x p q =
     let inner : (Bytes b, k) ≡ (Bytes a, h) = cc in
     let said : Bytes b ≡ Bytes a = ap (λ (z : Said × Held). z.0) inner in
     (cc, ap (λ (z : Said × Held). z.1) inner)
+
+-- ---- where no count rose, or the host is honest
+
+pub calm_first : (x y z : Told) → y.faults ≤ z.faults → Calm x z → Calm x y
+calm_first x y z le (inl quiet) = inl (λ rose. quiet (omega (arith, rose, le)))
+calm_first x y z le (inr honest) = inr honest
+
+pub calm_rest : (x y z : Told) → x.faults ≤ y.faults → y.honest ≡ x.honest → Calm x z → Calm y z
+calm_rest x y z le same (inl quiet) = inl (λ rose. quiet (omega (arith, rose, le)))
+calm_rest x y z le same (inr honest) = inr (same ∙ honest)
+
+-- no call failed that what was held can serve
+pub calm_served : (call : Call) (given : List ℕ) (old new : Told) (h : Held) (v : Said × Held) → old.held ≡ Some h → Refused call given old new
+    → Calm old new → serve h call given ≡ Some v → ⊥
+calm_served call given old new h v is r (inl quiet) some = quiet (omega (arith, r.counted))
+calm_served call given old new h v is r (inr honest) some =
+    not_both (serve h call given) v ((held_refused call given old new h is r).1 honest) some
 
 -- ---- how reads are served
 

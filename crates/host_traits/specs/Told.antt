@@ -1,5 +1,5 @@
 -- What a host tells of the calls that were made and of what it holds, and what each call adds to it.
-use Rattle.std.specs.Prelude.{Bool, true, ◌≡◌, ◌≤◌, ◌+◌, ◌-◌, ◌^◌, ℕ, min, List, [], ◌∷◌, ◌++◌, length, drop, Option, Some, None, Result, Ok, Err}
+use Rattle.std.specs.Prelude.{Bool, true, ◌≡◌, ◌⊎◌, ◌≤◌, ◌+◌, ◌-◌, ◌^◌, ℕ, min, List, [], ◌∷◌, ◌++◌, length, drop, Option, Some, None, Result, Ok, Err}
 use Rattle.host_traits.specs.declared.calls.Call.{Call}
 use Rattle.host_traits.specs.declared.calls.Call.TheVariants.{BlockSize, BlockRead, BlockWrite, BlockSync, FileRead, TreeRead, Descriptor, FileWrite, TreeWrite, Resize, Create, Mkdir, Delete}
 use Rattle.host_traits.specs.declared.calls.Said.{Said}
@@ -155,6 +155,11 @@ pub record Told : Type 0 where
 -- a count rose: it is larger, or stands at the last value of u64
 abbrev pub Rose : ℕ → ℕ → Type 0
 Rose before now = min (before + 1) (2 ^ 64 - 1) ≤ now
+
+-- The count of failures didn't rise, or the host is honest. Over a host that tells what it holds, each call that this can serve
+-- was then answered by it, or ended for want of memory.
+abbrev pub Calm : Told → Told → Type 0
+Calm old new = (Rose old.faults new.faults → ⊥) ⊎ (old.honest ≡ true)
 
 -- the list so far and these, where it is told
 abbrev pub and_more : {A : Type 0} → Option (List A) → List A → Option (List A)

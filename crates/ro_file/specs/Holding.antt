@@ -1,9 +1,10 @@
--- What is opened and read where an honest host holds a file: what it holds, or nothing for want of memory.
-use Rattle.std.specs.Prelude.{true, ◌≡◌, ℕ, ◌^◌, ◌≤◌, List, take, drop, Some, Result, Ok, Err}
+-- What is opened and read where a host holds a file, and no call failed or the host is honest: what it holds, or nothing for want
+-- of memory.
+use Rattle.std.specs.Prelude.{◌≡◌, ℕ, ◌^◌, ◌≤◌, List, take, drop, Some, Result, Ok, Err}
 use Rattle.sha2.specs.Sha256.{sha256}
 use Rattle.mg_base.specs.declared.values.Digest.{Digest}
 use Rattle.host_traits.specs.Held.{Held, File}
-use Rattle.host_traits.specs.Told.{Told}
+use Rattle.host_traits.specs.Told.{Told, Calm}
 use Rattle.verity_descriptor.specs.declared.Descriptor.{Descriptor}
 use Rattle.verity_descriptor.specs.Spelling.{IsDescriptor, descriptor_bytes}
 use Rattle.verity_path.specs.Holding.{WhereHeld, OrMemory}
@@ -26,12 +27,14 @@ abbrev pub OpensAs : ℕ → Descriptor → Result MeasuredFile RoFault → Type
 OpensAs number d (Ok f) = f ≡ file_of number d
 OpensAs number d (Err why) = why ≡ fault.Memory
 
--- Where an honest host held such a file, it was opened, and the host holds afterwards what it held.
+-- Where a host held such a file, and no call failed or the host is honest, it was opened, and the host holds afterwards what it
+-- held.
 pub record FileOpens (number : ℕ) (digest : Digest) (old new : Told) (result : Result MeasuredFile RoFault) : Type 0 where
-  pub right : (h : Held) (d : Descriptor) → old.honest ≡ true → old.held ≡ Some h → HoldsDescriptor h number digest d
-      → (new.honest ≡ true) × (new.held ≡ Some h) × OpensAs number d result
+  pub right : (h : Held) (d : Descriptor) → Calm old new → old.held ≡ Some h → HoldsDescriptor h number digest d
+      → (new.held ≡ Some h) × OpensAs number d result
 
--- Where an honest host held a content and its tree as those of a file, a read gives the content's bytes, cut at its end.
+-- Where a host held a content and its tree as those of a file, and no call failed or the host is honest, a read gives the
+-- content's bytes, cut at its end.
 abbrev pub FileReadIsRight : MeasuredFile → ℕ → ℕ → Told → Told → List ℕ → Result (Unit {0}) WalkFault → Type 0
 FileReadIsRight f offset len old new bytes result =
     WhereHeld (layout_of f) f.measure old new (λ content. OrMemory result (λ _. bytes ≡ take len (drop offset content)))

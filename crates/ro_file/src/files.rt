@@ -114,7 +114,7 @@ pub fn open_file<H: Host>(
     // The one call, and what came of it.
     ensures did { Did (IsDescriptorCall file) 1 (H.told host.old) (H.told host.new)
         (OpenFileOutcome file digest.now result) }
-    // Over an honest host that holds a file with this digest, the file or want of memory.
+    // Over a host that holds a file with this digest, where no call failed or it is honest, the file or want of memory.
     ensures held { FileOpens file digest.now (H.told host.old) (H.told host.new) result }
 {
     match host.file_descriptor(file, raw) {
@@ -158,7 +158,7 @@ impl RoFile {
             (most_answers self.now.measure self.now.size at len) (H.told host.old) (H.told host.new)
             (RangeOutcome (layout_of self.now) self.now.measure self.now.size at len
             served.new result) }
-        // Over an honest host that holds the content, its bytes or want of memory.
+        // Over a host that holds the content, where no call failed or it is honest, its bytes or want of memory.
         ensures held { FileReadIsRight self.now at len
             (H.told host.old) (H.told host.new) served.new result }
     {

@@ -1,10 +1,11 @@
--- A walk and a read of a range over an honest host that holds the content.
-use Rattle.std.proofs.Common.{true, ◌≡◌, ℕ, zero, suc, ◌+◌, ◌-◌, ◌*◌, ◌/◌, ◌%◌, ◌<◌, ◌≤◌, ◌∙◌, min, max, List, [], ◌++◌, length, take, drop, replicate, Result, Ok, Err, refl, ap, sym, subst, arith}
+-- A walk and a read of a range over a host that holds the content.
+use Rattle.std.proofs.Common.{◌≡◌, ℕ, zero, suc, ◌+◌, ◌-◌, ◌*◌, ◌/◌, ◌%◌, ◌<◌, ◌≤◌, ◌∙◌, min, max, List, [], ◌++◌, length, take, drop, replicate, Result, Ok, Err, refl, ap, sym, subst, arith}
 use Rattle.std.specs.Prelude.{slice_range}
 use Rattle.std.proofs.lemmas.List.{length-take, length-drop, take-append-le, drop-append-le, drop-take, take-take, drop-drop}
 use Rattle.std.proofs.Math.Seq.{take-add}
 use Rattle.host_traits.specs.Did.{Trace}
-use Rattle.host_traits.specs.Told.{Told}
+use Rattle.host_traits.specs.Told.{Told, Made, Talked, Calm}
+use Rattle.host_traits.proofs.Holding.{calm_first, calm_rest}
 use Rattle.sha_tree.specs.declared.measure.Measure.{Measure}
 use Rattle.sha_tree.specs.Tree.{block, page, page_hash, pages_at, slot, ancestor, top, block_count}
 use Rattle.sha_tree.specs.Measured.{HasTree}
@@ -19,6 +20,14 @@ use Rattle.verity_path.specs.declared.walk.WalkFault.{WalkFault}
 use Rattle.verity_path.proofs.Walking.{IsAt, next_at}
 use Rattle.verity_path.proofs.Pages.{take-most}
 
+-- what two pieces of work told, one after the other: calm over both is calm over each
+module _ (x y z : Told) (one two : List Made) (before : Talked x y one) (then : Talked y z two) where
+  calm_one : Calm x z → Calm x y
+  calm_one calm = calm_first x y z then.faults calm
+
+  calm_two : Calm x z → Calm y z
+  calm_two calm = calm_rest x y z before.faults before.honest calm
+
 -- the anchor of a measure is that of the content's top page
 anchored_top : (m : Measure) (content : List ℕ) (a : Place) → 0 < m.blocks → HasTree m content → a.salt ≡ m.salt → a.level ≡ top m.blocks → a.index ≡ 0
     → a.digest ≡ m.root.0 → IsAnchored m content a
@@ -31,62 +40,61 @@ anchored_top m content a some tree salt level index digest = record {
 pub right_top : (layout : Layout) (m : Measure) (a : Place) (x : Told) → 0 < m.blocks → a.salt ≡ m.salt → a.level ≡ top m.blocks → a.index ≡ 0
     → a.digest ≡ m.root.0 → WhereHeld layout m x x (λ content. IsAnchored m content a)
 right_top layout m a x some salt level index digest = record {
-  right = λ h content honest held holds tree limit.
-      (honest, held, anchored_top m content a some tree salt level index digest);
+  right = λ h content calm held holds tree limit.
+      (held, anchored_top m content a some tree salt level index digest);
 }
 
 module _ (layout : Layout) (m : Measure) (index count : ℕ) (same : count ≡ m.blocks) (within : index < m.blocks) where
   -- one level down
-  pub right_below : (a b : Place) (level : ℕ) (t : Trace) (x y z : Told) → 0 < level → IsAt m index level a → IsBelow layout count index a t b
+  pub right_below : (a b : Place) (level : ℕ) (t : Trace) (x y z : Told) (one two : List Made) → Talked x y one → Talked y z two → 0 < level → IsAt m index level a → IsBelow layout count index a t b
       → WhereHeld layout m x y (λ content. IsAnchored m content a) → BelowIsRight layout count index a y z (Ok b)
       → WhereHeld layout m x z (λ content. IsAnchored m content b)
-  right_below a b level t x y z some at q before step = record {
-    right = λ h content honest held holds tree limit.
-        let here = before.right h content honest held holds tree limit in
-        let there = (step m (sym same)).right h content here.0 here.1 holds tree limit in
+  right_below a b level t x y z one two was is some at q before step = record {
+    right = λ h content calm held holds tree limit.
+        let here = before.right h content (calm_one x y z one two was is calm) held holds tree limit in
+        let there = (step m (sym same)).right h content (calm_two x y z one two was is calm) here.0 holds tree limit in
         let next = next_at m index layout count a b level t some at q in
         let k : ℕ = ancestor index (a.level - 1) % 128 in
         let up : a.level ≡ suc (level - 1) = omega (arith, at.level_is, some) in
         let inside : ancestor index (level - 1) < pages_at m.blocks (level - 1) = ancestor-page m.blocks index (level - 1) within in
-        let is : 128 * a.index + k ≡ ancestor index (level - 1) = sym q.index_is ∙ next.index_is in
+        let place : 128 * a.index + k ≡ ancestor index (level - 1) = sym q.index_is ∙ next.index_is in
         let digest : slot (page content m.salt (suc (level - 1)) a.index) k ≡ page_hash m.salt (page content m.salt (level - 1) (128 * a.index + k)) =
-        slot-page content m.salt (level - 1) a.index k (omega arith) (rw (is, tree.blocks) inside) in (
+        slot-page content m.salt (level - 1) a.index k (omega arith) (rw (place, tree.blocks) inside) in (
           there.0,
-          there.1,
           record {
-            salt_is = q.salt_is ∙ here.2.salt_is;
-            digest_is = there.2 here.2 ∙ ap (λ (l : ℕ). slot (page content m.salt l a.index) k) up ∙ digest
+            salt_is = q.salt_is ∙ here.1.salt_is;
+            digest_is = there.1 here.1 ∙ ap (λ (l : ℕ). slot (page content m.salt l a.index) k) up ∙ digest
                 ∙ rw (next.level_is, q.index_is) refl;
           },
         );
   }
 
   -- a fault on the way, or the block
-  pub right_end : (a : Place) (level : ℕ) (x y z : Told) (r : Result Met WalkFault) → level ≡ 0 → IsAt m index level a
+  pub right_end : (a : Place) (level : ℕ) (x y z : Told) (one two : List Made) (r : Result Met WalkFault) → Talked x y one → Talked y z two → level ≡ 0 → IsAt m index level a
       → WhereHeld layout m x y (λ content. IsAnchored m content a) → ProvedIsRight layout count a y z r → WalkIsRight layout m index x z r
   unfolding page
-  right_end a level x y z (Ok p) none at before step = record {
-    right = λ h content honest held holds tree limit.
-        let here = before.right h content honest held holds tree limit in
-        let there = (step m (sym same)).right h content here.0 here.1 holds tree limit in
+  right_end a level x y z one two (Ok p) was is none at before step = record {
+    right = λ h content calm held holds tree limit.
+        let here = before.right h content (calm_one x y z one two was is calm) held holds tree limit in
+        let there = (step m (sym same)).right h content (calm_two x y z one two was is calm) here.0 holds tree limit in
         let zero_is : a.level ≡ 0 = at.level_is ∙ none in
         let index_is : a.index ≡ index = at.index_is ∙ ap (ancestor index) none ∙ ancestor-zero index in
-        (there.0, there.1, there.2 here.2 ∙ ap (λ (l : ℕ). page content m.salt l a.index) zero_is ∙ ap (block content) index_is);
+        (there.0, there.1 here.1 ∙ ap (λ (l : ℕ). page content m.salt l a.index) zero_is ∙ ap (block content) index_is);
   }
-  right_end a level x y z (Err why) none at before step = record {
-    right = λ h content honest held holds tree limit.
-        let here = before.right h content honest held holds tree limit in
-        let there = (step m (sym same)).right h content here.0 here.1 holds tree limit in
-        (there.0, there.1, there.2 here.2);
+  right_end a level x y z one two (Err why) was is none at before step = record {
+    right = λ h content calm held holds tree limit.
+        let here = before.right h content (calm_one x y z one two was is calm) held holds tree limit in
+        let there = (step m (sym same)).right h content (calm_two x y z one two was is calm) here.0 holds tree limit in
+        (there.0, there.1 here.1);
   }
 
-  pub right_fault : (a : Place) (x y z : Told) (why : WalkFault) → WhereHeld layout m x y (λ content. IsAnchored m content a)
+  pub right_fault : (a : Place) (x y z : Told) (one two : List Made) (why : WalkFault) → Talked x y one → Talked y z two → WhereHeld layout m x y (λ content. IsAnchored m content a)
       → BelowIsRight layout count index a y z (Err why) → WalkIsRight layout m index x z (Err why)
-  right_fault a x y z why before step = record {
-    right = λ h content honest held holds tree limit.
-        let here = before.right h content honest held holds tree limit in
-        let there = (step m (sym same)).right h content here.0 here.1 holds tree limit in
-        (there.0, there.1, there.2 here.2);
+  right_fault a x y z one two why was is before step = record {
+    right = λ h content calm held holds tree limit.
+        let here = before.right h content (calm_one x y z one two was is calm) held holds tree limit in
+        let there = (step m (sym same)).right h content (calm_two x y z one two was is calm) here.0 holds tree limit in
+        (there.0, there.1 here.1);
   }
 
 -- ---- a range
@@ -124,50 +132,48 @@ RightSoFar layout m size offset end index x y bytes =
 module _ (layout : Layout) (m : Measure) (size offset len end : ℕ) (end_is : end ≡ end_of size offset len) (some : offset < end) where
   pub right_start : (x : Told) (bytes : List ℕ) → bytes ≡ [] → RightSoFar layout m size offset end (offset / 4096) x x bytes
   right_start x bytes none = record {
-    right = λ h content honest held holds tree limit.
+    right = λ h content calm held holds tree limit.
         let no : 0 ≡ min end (max offset (4096 * (offset / 4096))) - offset = omega arith in
-        (honest, held, λ is. none ∙ ap (λ (n : ℕ). take n (drop offset content)) no);
+        (held, λ is. none ∙ ap (λ (n : ℕ). take n (drop offset content)) no);
   }
 
-  pub right_on : (x y z : Told) (index : ℕ) (bytes : List ℕ) (p : Met) → offset / 4096 ≤ index → 4096 * index < end
+  pub right_on : (x y z : Told) (one two : List Made) (index : ℕ) (bytes : List ℕ) (p : Met) → Talked x y one → Talked y z two → offset / 4096 ≤ index → 4096 * index < end
       → RightSoFar layout m size offset end index x y bytes → WalkIsRight layout m index y z (Ok p)
       → RightSoFar layout m size offset end (index + 1) x z
       (bytes ++ slice_range p.page (max offset (4096 * index) - 4096 * index) (min end (4096 * index + 4096) - 4096 * index))
-  right_on x y z index bytes p from to before step = record {
-    right = λ h content honest held holds tree limit.
-        let here = before.right h content honest held holds tree limit in
-        let there = step.right h content here.0 here.1 holds tree limit in
+  right_on x y z one two index bytes p was is from to before step = record {
+    right = λ h content calm held holds tree limit.
+        let here = before.right h content (calm_one x y z one two was is calm) held holds tree limit in
+        let there = step.right h content (calm_two x y z one two was is calm) here.0 holds tree limit in
         let mid = max offset (4096 * index) in
         let last = min end (4096 * index + 4096) in
         let here_is : min end mid ≡ mid = omega arith in
         let there_is : min end (max offset (4096 * (index + 1))) ≡ last = omega arith in
         let part : (last - 4096 * index) - (mid - 4096 * index) ≡ last - mid = omega arith in (
           there.0,
-          there.1,
-          λ is. rw (there_is, part) (part_more content bytes p.page offset index mid last (omega arith) (omega arith) (omega arith) (omega arith)
-              (omega (arith, is, end_is)) (rw here_is at (here.2 is)) there.2),
+          λ whole. rw (there_is, part) (part_more content bytes p.page offset index mid last (omega arith) (omega arith) (omega arith) (omega arith)
+              (omega (arith, whole, end_is)) (rw here_is at (here.1 whole)) there.1),
         );
   }
 
-  pub right_bad : (x y z : Told) (index : ℕ) (bytes left : List ℕ) (why : WalkFault) → RightSoFar layout m size offset end index x y bytes
+  pub right_bad : (x y z : Told) (one two : List Made) (index : ℕ) (bytes left : List ℕ) (why : WalkFault) → Talked x y one → Talked y z two → RightSoFar layout m size offset end index x y bytes
       → WalkIsRight layout m index y z (Err why) → RangeIsRight layout m size offset len x z left (Err why)
-  right_bad x y z index bytes left why before step = record {
-    right = λ h content honest held holds tree limit.
-        let here = before.right h content honest held holds tree limit in
-        let there = step.right h content here.0 here.1 holds tree limit in
-        (there.0, there.1, λ is. there.2);
+  right_bad x y z one two index bytes left why was is before step = record {
+    right = λ h content calm held holds tree limit.
+        let here = before.right h content (calm_one x y z one two was is calm) held holds tree limit in
+        let there = step.right h content (calm_two x y z one two was is calm) here.0 holds tree limit in
+        (there.0, λ whole. there.1);
   }
 
   pub right_all : (x y : Told) (index : ℕ) (bytes : List ℕ) (u : Unit {0}) → index ≡ (end + 4095) / 4096 → RightSoFar layout m size offset end index x y bytes
       → RangeIsRight layout m size offset len x y bytes (Ok u)
   right_all x y index bytes u last before = record {
-    right = λ h content honest held holds tree limit.
-        let here = before.right h content honest held holds tree limit in (
+    right = λ h content calm held holds tree limit.
+        let here = before.right h content calm held holds tree limit in (
           here.0,
-          here.1,
           λ is.
               let all : min end (max offset (4096 * index)) - offset ≡ min (length (drop offset content)) len = omega (arith, length-drop offset content, last, end_is, some, is) in
-              here.2 is ∙ ap (λ (n : ℕ). take n (drop offset content)) all ∙ take-most len (drop offset content),
+              here.1 is ∙ ap (λ (n : ℕ). take n (drop offset content)) all ∙ take-most len (drop offset content),
         );
   }
 
@@ -175,8 +181,7 @@ module _ (layout : Layout) (m : Measure) (size offset len end : ℕ) (end_is : e
 pub right_none : (layout : Layout) (m : Measure) (size offset len : ℕ) (x : Told) (bytes : List ℕ) (u : Unit {0}) → end_of size offset len ≤ offset → bytes ≡ []
     → RangeIsRight layout m size offset len x x bytes (Ok u)
 right_none layout m size offset len x bytes u le none = record {
-  right = λ h content honest held holds tree limit. (
-    honest,
+  right = λ h content calm held holds tree limit. (
     held,
     λ is.
         let no : 0 ≡ min (length (drop offset content)) len = omega (arith, length-drop offset content, le, is) in

@@ -1,8 +1,8 @@
--- A measured content that a host holds, and what is read of it where the host is honest: the content, or nothing for want of
--- memory. No premise says that no call failed, or that digests don't clash.
-use Rattle.std.specs.Prelude.{true, ◌≡◌, ℕ, ◌-◌, ◌*◌, ◌%◌, ◌<◌, ◌≤◌, List, length, take, drop, Some, Result, Ok, Err}
+-- A measured content that a host holds, and what is read of it where no call failed or the host is honest: the content, or
+-- nothing for want of memory. No premise says that digests don't clash.
+use Rattle.std.specs.Prelude.{◌≡◌, ℕ, ◌-◌, ◌*◌, ◌%◌, ◌<◌, ◌≤◌, List, length, take, drop, Some, Result, Ok, Err}
 use Rattle.host_traits.specs.Held.{Held, Disk, File}
-use Rattle.host_traits.specs.Told.{Told}
+use Rattle.host_traits.specs.Told.{Told, Calm}
 use Rattle.sha_tree.specs.declared.measure.Measure.{Measure}
 use Rattle.sha_tree.specs.Tree.{block, page, page_hash, pages_at, slot, ancestor, stored_tree, top, tree_pages}
 use Rattle.sha_tree.specs.Measured.{HasTree}
@@ -35,11 +35,11 @@ abbrev pub HoldsAt : Held → Layout → Measure → List ℕ → Type 0
 HoldsAt h (OnFile file size) m content = HoldsFile h file size m content
 HoldsAt h (InParts disk first tree) m content = HoldsParts h disk first tree m content
 
--- Where an honest host held a content and its tree at these places, what came is right by the content, and the host holds
--- afterwards what it held.
+-- Where a host held a content and its tree at these places, and no call failed or the host is honest, what came is right by the
+-- content, and the host holds afterwards what it held.
 pub record WhereHeld (layout : Layout) (m : Measure) (old new : Told) (IsRight : List ℕ → Type 0) : Type 0 where
-  pub right : (h : Held) (content : List ℕ) → old.honest ≡ true → old.held ≡ Some h → HoldsAt h layout m content
-      → HasTree m content → m.blocks ≤ 1048576 → (new.honest ≡ true) × (new.held ≡ Some h) × IsRight content
+  pub right : (h : Held) (content : List ℕ) → Calm old new → old.held ≡ Some h → HoldsAt h layout m content
+      → HasTree m content → m.blocks ≤ 1048576 → (new.held ≡ Some h) × IsRight content
 
 -- this came, or the host had no memory
 abbrev pub OrMemory : {A : Type 0} → Result A WalkFault → (A → Type 0) → Type 0

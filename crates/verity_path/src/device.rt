@@ -51,7 +51,7 @@ pub fn read_range<H: Host>(
     ensures did { Did (IsForRead device.now.layout device.now.measure size at len)
         (most_answers device.now.measure size at len) (H.told host.old) (H.told host.new)
         (RangeOutcome device.now.layout device.now.measure size at len served.new result) }
-    // Over an honest host that holds the content, its bytes or want of memory.
+    // Over a host that holds the content, where no call failed or it is honest, its bytes or want of memory.
     ensures held { RangeIsRight device.now.layout device.now.measure size at len
         (H.told host.old) (H.told host.new) served.new result }
 {

@@ -61,7 +61,7 @@ pub fn fetch_page<H: Host>(
     ensures did { Did (IsCallFor layout.now geometry.now anchor.now.level anchor.now.index) 1
         (H.told host.old) (H.told host.new)
         (FetchOutcome layout.now geometry.now anchor.now page.old page.new result) }
-    // Over an honest host that holds the content, its page or want of memory.
+    // Over a host that holds the content, where no call failed or it is honest, its page or want of memory.
     ensures held { PageIsRight layout.now geometry.now anchor.now
         (H.told host.old) (H.told host.new) page.new result }
 {
@@ -156,7 +156,7 @@ pub fn walk_page<'a, H: Host>(
     requires suits { Suits layout.now measure.now.blocks }
     ensures did { Did (IsOnPath layout.now measure.now index) (top measure.now.blocks + 1)
         (H.told host.old) (H.told host.new) (WalkOutcome layout.now measure.now index result) }
-    // Over an honest host that holds the content, its block or want of memory.
+    // Over a host that holds the content, where no call failed or it is honest, its block or want of memory.
     ensures held { WalkIsRight layout.now measure.now index
         (H.told host.old) (H.told host.new) result }
 {

@@ -45,7 +45,7 @@ returns-in-Err-clause-held g c =
     let end_is : c.min-end.result ≡ end_of c.args.size c.args.at c.args.len = omega (arith, c.min-end.ensures, c.saturating_add.ensures) in
     let some : c.args.at < c.min-end.result = omega (arith, c.min-end.ensures, c.saturating_add.ensures) in
     right_bad c.args.device.now.layout c.args.device.now.measure c.args.size c.args.at c.args.len c.min-end.result end_is some
-    _ _ _ c.loop-index.index _ [] _ c.loop-index.invariant.held c.in-Err.ensures.held
+    _ _ _ _ _ c.loop-index.index _ [] _ c.loop-index.invariant.did.talked c.in-Err.ensures.did.talked c.loop-index.invariant.held c.in-Err.ensures.held
 
 pub loop-index-preserved : goal.loop-index-preserved
 loop-index-preserved g c =
@@ -57,7 +57,7 @@ loop-index-preserved g c =
           _ _ _ c.loop-index.index _ _ (omega arith) (omega arith) c.loop-index.invariant.did c.in-Ok.ensures.did);
       held = rw (c.push.ensures.value, c.min.ensures, c.max.ensures)
           (right_on c.args.device.now.layout c.args.device.now.measure c.args.size c.args.at c.args.len c.min-end.result end_is some
-          _ _ _ c.loop-index.index _ c.in-Ok.block (omega arith) (omega arith) c.loop-index.invariant.held c.in-Ok.ensures.held);
+          _ _ _ _ _ c.loop-index.index _ c.in-Ok.block c.loop-index.invariant.did.talked c.in-Ok.ensures.did.talked (omega arith) (omega arith) c.loop-index.invariant.held c.in-Ok.ensures.held);
     }
 
 pub returns-clause-did : goal.returns-clause-did

@@ -33,7 +33,7 @@ returns-in-Err-clause-did g c =
 pub returns-in-Err-clause-held : goal.returns-in-Err-clause-held
 returns-in-Err-clause-held g c =
     right_fault c.args.layout.now c.args.measure.now c.args.index _ c.in-Some.ensures.value c.requires.within
-    c.levels.anchor _ _ _ c.in-Err.fault c.levels.invariant.held c.in-Err.ensures.held
+    c.levels.anchor _ _ _ _ _ c.in-Err.fault c.levels.invariant.did.talked c.in-Err.ensures.did.talked c.levels.invariant.held c.in-Err.ensures.held
 
 pub levels-preserved : goal.levels-preserved
 levels-preserved g c = record {
@@ -42,8 +42,8 @@ levels-preserved g c = record {
   did = goes_on c.args.layout.now c.args.measure.now c.args.index _ c.in-Some.ensures.value c.requires.within
       c.levels.anchor c.in-Ok.below c.levels.level _ _ _ c.levels-test.true c.levels.invariant.at c.levels.invariant.did c.in-Ok.ensures.did;
   held = right_below c.args.layout.now c.args.measure.now c.args.index _ c.in-Some.ensures.value c.requires.within
-      c.levels.anchor c.in-Ok.below c.levels.level _ _ _ _ c.levels-test.true c.levels.invariant.at c.in-Ok.ensures.did.outcome
-      c.levels.invariant.held c.in-Ok.ensures.held;
+      c.levels.anchor c.in-Ok.below c.levels.level _ _ _ _ _ _ c.levels.invariant.did.talked c.in-Ok.ensures.did.talked
+      c.levels-test.true c.levels.invariant.at c.in-Ok.ensures.did.outcome c.levels.invariant.held c.in-Ok.ensures.held;
 }
 
 pub returns-clause-did : goal.returns-clause-did
@@ -54,4 +54,5 @@ returns-clause-did g c =
 pub returns-clause-held : goal.returns-clause-held
 returns-clause-held g c =
     right_end c.args.layout.now c.args.measure.now c.args.index _ c.in-Some.ensures.value c.requires.within
-    c.levels.anchor c.levels.level _ _ _ c.fetch.result (omega arith) c.levels.invariant.at c.levels.invariant.held c.fetch.ensures.held
+    c.levels.anchor c.levels.level _ _ _ _ _ c.fetch.result c.levels.invariant.did.talked c.fetch.ensures.did.talked
+    (omega arith) c.levels.invariant.at c.levels.invariant.held c.fetch.ensures.held
