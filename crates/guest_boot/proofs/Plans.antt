@@ -16,7 +16,7 @@ served_push [] l s one = (one, tt)
 served_push (x ∷ lines) l s one = (s.0, served_push lines l s.1 one)
 
 -- a choice that came to a value
-chosen : {K : Type 0} (b : Bool) (fault : PlanKind) (x later : K) → (if b then Err fault else Ok x) ≡ Ok later → x ≡ later
+pub chosen : {K : Type 0} (b : Bool) (fault : PlanKind) (x later : K) → (if b then Err fault else Ok x) ≡ Ok later → x ≡ later
 chosen true fault x later e = absurd cc
 chosen false fault x later e = cc
 
@@ -28,7 +28,7 @@ added k later n (InstanceSalt bytes) s one e = subst (λ (z : Known). AreServed 
 added k later n (Line l) s one e = subst (λ (z : Known). AreServed z.lines) (chosen _ _ _ _ e) (served_push k.lines l s one)
 
 -- a value that was made of another
-bound : {K : Type 0} (r : Result K PlanKind) (f : K → Result K PlanKind) (later : K) → (r >>= f) ≡ Ok later → (mid : K) × (r ≡ Ok mid) × (f mid ≡ Ok later)
+pub bound : {K : Type 0} (r : Result K PlanKind) (f : K → Result K PlanKind) (later : K) → (r >>= f) ≡ Ok later → (mid : K) × (r ≡ Ok mid) × (f mid ≡ Ok later)
 bound (Ok mid) f later e = (mid, refl, e)
 bound (Err fault) f later e = absurd cc
 

@@ -1,4 +1,5 @@
--- A host that a store list makes, and a plan that it fits: a blob of two blocks, whose file is the store's by a `verity` line.
+-- A host that a store list makes, and a plan that it fits: a content of two blocks, as a blob and as a file by its digest. Its
+-- file at the host is the store's by a `verity` line.
 use Rattle.std.proofs.Common.{◌≡◌, ℕ, zero, suc, ◌*◌, ◌<◌, ◌≤◌, true, List, [], ◌∷◌, length, Some, None, refl, subst, sym, arith}
 use Rattle.std.specs.Prelude.{Option, slice_get, replicate, ◌==◌, if◌then◌else◌}
 use Rattle.std.proofs.lemmas.Bool.Decides.{nat_tests}
@@ -9,11 +10,13 @@ use Rattle.mem_files.specs.FsVerity.{verity_file, is_tree_page}
 use Rattle.sha_tree.specs.declared.measure.Measure.{Measure}
 use Rattle.sha_tree.specs.Tree.{block_count, pages_at, top, page, root}
 use Rattle.mg_base.specs.declared.values.Digest.{Digest}
-use Rattle.guest_plan.specs.declared.plan.How.{How}
+use Rattle.sha2.specs.Sha256.{sha256}
+use Rattle.verity_descriptor.specs.Spelling.{descriptor_bytes}
+use Rattle.ro_file.specs.Contents.{descriptor_of}
 use Rattle.guest_plan.specs.declared.plan.PlanLine.{PlanLine}
 use Rattle.guest_plan.specs.declared.plan.PlanLine.TheVariants as line
 use Rattle.guest_rules.specs.Machine.{World}
-use Rattle.guest_laws.specs.Fitting.{Fits, FitsBlob, FitsItem, item_line}
+use Rattle.guest_laws.specs.Fitting.{Fits, FitsBlob, FitsFile, FitsItem, item_line}
 use Rattle.guest_laws.proofs.Lines.{same_line}
 
 is_page : (count level i : ℕ) → 0 < level → level ≤ top count → i < pages_at count level → is_tree_page count level i ≡ true
@@ -26,18 +29,26 @@ module _ (content : List ℕ) (len : length content ≡ 8192) where
   abbrev pub held : Held
   held = with_file nothing 1 (verity_file content [])
 
+  abbrev pub digest : Digest
+  digest = record { 0 = sha256 (descriptor_bytes (descriptor_of content [])) }
+
   abbrev pub plan : List PlanLine
-  plan = line.Blob 1 measure ∷ []
+  plan = line.Blob 1 measure ∷ line.File (97 ∷ []) 1 digest ∷ []
 
   abbrev pub world : World
   world k = if k == 0 then Some content else None
 
-  tree_held : (level i : ℕ) → 0 < level → level ≤ top 2 → i < pages_at 2 level → (verity_file content []).tree level i ≡ page content [] level i
+  tree_in : (level i : ℕ) → 0 < level → level ≤ top (block_count (length content)) → i < pages_at (block_count (length content)) level
+      → (verity_file content []).tree level i ≡ page content [] level i
   unfolding verity_file
+  tree_in level i some low within =
+      let test : is_tree_page (block_count (length content)) level i ≡ true = is_page (block_count (length content)) level i some low within in
+      rw test refl
+
+  tree_held : (level i : ℕ) → 0 < level → level ≤ top 2 → i < pages_at 2 level → (verity_file content []).tree level i ≡ page content [] level i
   tree_held level i some low within =
       let count : block_count (length content) ≡ 2 = omega (arith, len) in
-      let test : is_tree_page (block_count (length content)) level i ≡ true = subst (λ (n : ℕ). is_tree_page n level i ≡ true) (sym count) (is_page 2 level i some low within) in
-      rw test refl
+      tree_in level i some (subst (λ (n : ℕ). level ≤ top n) (sym count) low) (subst (λ (n : ℕ). i < pages_at n level) (sym count) within)
 
   bytes_held : (verity_file content []).bytes ≡ content
   unfolding verity_file
@@ -55,15 +66,37 @@ module _ (content : List ℕ) (len : length content ≡ 8192) where
   item_held zero l at = subst (FitsItem held (Some content)) (same_line (line.Blob 1 measure) l at) blob_held
   item_held (suc k) l at = absurd cc
 
-  no_file : (k : ℕ) (name : List ℕ) (file : ℕ) (digest : Digest) → slice_get plan k ≡ Some (line.File name file digest) → ⊥
-  no_file zero name file digest at = let same = same_line (line.Blob 1 measure) (line.File name file digest) at in cc
-  no_file (suc k) name file digest at = cc
+  descriptor_held : (verity_file content []).descriptor ≡ descriptor_bytes (descriptor_of content [])
+  unfolding verity_file
+  descriptor_held = refl
 
-  -- the host of that one line holds what the plan needs
+  digest_held : FitsFile held 1 digest
+  digest_held = record {
+    bytes = content;
+    salt = [];
+    holds = record {
+      holds = record { file = verity_file content []; there = refl; size_is = refl; bytes = bytes_held; tree = tree_in };
+      descriptor = descriptor_held;
+      measured = record { size = omega (arith, len); digest_is = refl };
+      short = omega arith;
+      few = omega (arith, len);
+    };
+  }
+
+  abbrev IsHeldFile : PlanLine → Type 0
+  IsHeldFile (line.File name file d) = FitsFile held file d
+  IsHeldFile other = Unit {0}
+
+  file_held : (k : ℕ) (name : List ℕ) (file : ℕ) (d : Digest) → slice_get plan k ≡ Some (line.File name file d) → FitsFile held file d
+  file_held zero name file d at = let same = same_line (line.Blob 1 measure) (line.File name file d) at in absurd cc
+  file_held (suc zero) name file d at = subst IsHeldFile (same_line (line.File (97 ∷ []) 1 digest) (line.File name file d) at) digest_held
+  file_held (suc (suc k)) name file d at = absurd cc
+
+  -- the host of that file holds what the plan needs
   pub blob_fits : Fits plan world held
   blob_fits = record {
     items = item_held;
-    files = λ k name file digest at. absurd (no_file k name file digest at);
+    files = file_held;
   }
 
 -- such a content: 8,192 sevens

@@ -27,7 +27,7 @@ use Rattle.guest_rules.proofs.Calm.{all_served}
 use Rattle.guest_plan.proofs.Whole.{plan_takes}
 use Rattle.guest_cli.specs.Booted.{BootsOver}
 use Rattle.guest_cli.specs.Serve.{before, Recorded}
-use Rattle.guest_cli.proofs.Booting.{plan_served}
+use Rattle.guest_boot.proofs.Plans.{plan_served}
 use Rattle.guest_laws.specs.Fitting.{Fits, FitsItem, item_line}
 use Rattle.guest_laws.specs.Sessions.{IsServedIn, SessionsAreServed, BootsAreServed}
 use Rattle.guest_laws.proofs.Asking.{AreHeld, boot_held, not_failed}

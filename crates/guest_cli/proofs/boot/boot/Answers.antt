@@ -1,6 +1,7 @@
 use Rattle.std.proofs.Common.{inr}
 use Rattle.guest_plan.specs.Plans.{known}
-use Rattle.guest_cli.proofs.Booting.{plan_built, plan_served, plan_numbered}
+use Rattle.guest_boot.proofs.Plans.{plan_served}
+use Rattle.guest_cli.proofs.Booting.{plan_built, plan_numbered}
 use Rattle.guest_cli.proofs.boot.boot.Goals as goal
 
 pub open_lines-requires-clause-built : goal.open_lines-requires-clause-built
