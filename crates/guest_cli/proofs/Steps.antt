@@ -12,9 +12,10 @@ use Rattle.verity_path.specs.declared.walk.WalkFault.{WalkFault}
 use Rattle.verity_path.specs.declared.walk.WalkFault.TheVariants as fault
 use Rattle.verity_path.specs.Range.{most_answers, RangeOutcome}
 use Rattle.verity_path.proofs.Blaming.{blame_wider}
+use Rattle.verity_path.proofs.Order.{order_wider}
 use Rattle.verity_path.proofs.Ranges.{cut_wider}
 use Rattle.guest_rules.specs.Machine.{State, item_read, size_of, request_of}
-use Rattle.guest_rules.specs.ItemRow.{IsForItem, no_item, too_large, served, blamed, no_memory}
+use Rattle.guest_rules.specs.ItemRow.{IsForItem, item_calls, no_item, too_large, served, blamed, no_memory}
 use Rattle.guest_rules.specs.Step.{Stepped, answers_of, most_for}
 use Rattle.guest_rules.proofs.Runs.{stepped}
 use Rattle.guest_cli.specs.Works.{answer_to_read}
@@ -40,12 +41,12 @@ module _ (items : List Device) (state : State) (a b : Told) (payload : List ℕ)
 
   pub read_step : (bytes : List ℕ) (r : Result (Unit {0}) WalkFault) → Work bytes r → Stepped items state state a b (read_frame payload) (sent_of (answer_to_read r).reply bytes) (answer_to_read r).cause
   read_step bytes (Ok u) d = stepped items state state a b (read_frame payload) _ _ _ _ _ d (λ call for. (it, at, for)) few
-      (λ heard own failed cut. (refl, served it bytes at fits cut.0 (cut_wider heard own it.measure _ _ bytes cut.1)))
+      (λ heard own failed cut. (refl, served it bytes at fits cut.0 cut.2 (cut_wider heard own it.measure _ _ bytes cut.1)))
   read_step bytes (Err (fault.Mismatch x)) d = stepped items state state a b (read_frame payload) _ _ _ _ _ d (λ call for. (it, at, for)) few
-      (λ heard own failed blame. (refl, blamed it (cause.Mismatch x) at fits (blame_wider it.layout it.measure (IsForItem it (item_read payload)) a b heard own failed (fault.Mismatch x) blame)))
+      (λ heard own failed blame. (refl, blamed it (cause.Mismatch x) at fits (blame_wider it.layout it.measure (IsForItem it (item_read payload)) a b heard own failed (fault.Mismatch x) blame.0) (order_wider (item_calls it (item_read payload)) a b heard own failed blame.1)))
   read_step bytes (Err (fault.Short asked got)) d = stepped items state state a b (read_frame payload) _ _ _ _ _ d (λ call for. (it, at, for)) few
-      (λ heard own failed blame. (refl, blamed it (cause.Short asked got) at fits (blame_wider it.layout it.measure (IsForItem it (item_read payload)) a b heard own failed (fault.Short asked got) blame)))
+      (λ heard own failed blame. (refl, blamed it (cause.Short asked got) at fits (blame_wider it.layout it.measure (IsForItem it (item_read payload)) a b heard own failed (fault.Short asked got) blame.0) (order_wider (item_calls it (item_read payload)) a b heard own failed blame.1)))
   read_step bytes (Err (fault.Failed faults)) d = stepped items state state a b (read_frame payload) _ _ _ _ _ d (λ call for. (it, at, for)) few
-      (λ heard own failed blame. (refl, blamed it (cause.Failed faults) at fits (blame_wider it.layout it.measure (IsForItem it (item_read payload)) a b heard own failed (fault.Failed faults) blame)))
+      (λ heard own failed blame. (refl, blamed it (cause.Failed faults) at fits (blame_wider it.layout it.measure (IsForItem it (item_read payload)) a b heard own failed (fault.Failed faults) blame.0) (order_wider (item_calls it (item_read payload)) a b heard own failed blame.1)))
   read_step bytes (Err fault.Memory) d = stepped items state state a b (read_frame payload) _ _ _ _ _ d (λ call for. (it, at, for)) few
-      (λ heard own failed none. (refl, no_memory there fits (record { failed = none.failed; scarce = none.scarce })))
+      (λ heard own failed none. (refl, no_memory it at fits (record { failed = none.0.failed; scarce = none.0.scarce }) (order_wider (item_calls it (item_read payload)) a b heard own failed none.1)))

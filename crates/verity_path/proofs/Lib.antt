@@ -1,5 +1,6 @@
 pub mod Asking
 pub mod Fetching
+pub mod Order
 pub mod Walking
 pub mod Blaming
 pub mod Ranges

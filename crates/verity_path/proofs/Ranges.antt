@@ -1,5 +1,5 @@
 -- A read of a range, block by block.
-use Rattle.std.proofs.Common.{◌≡◌, ℕ, ◌+◌, ◌-◌, ◌*◌, ◌/◌, ◌%◌, ◌<◌, ◌≤◌, min, max, List, [], ◌++◌, length, take, drop, get_or, ap, sym, suc, ◌∙◌, refl, arith, ⊎_elim, Ok, Err}
+use Rattle.std.proofs.Common.{◌≡◌, ℕ, ◌+◌, ◌-◌, ◌*◌, ◌/◌, ◌%◌, ◌<◌, ◌≤◌, min, max, List, [], ◌∷◌, ◌++◌, zero, append_assoc, append-nil, length, take, drop, get_or, ap, sym, suc, ◌∙◌, refl, arith, ⊎_elim, Ok, Err}
 use Rattle.std.specs.Prelude.{slice_index, slice_range, ◌⊎◌}
 use Rattle.std.proofs.lemmas.List.{get_or-take, get_or-drop, get_or_append_left, length-take, length-drop, length-append, ext_get_or}
 use Rattle.std.proofs.Math.Nat.{suc-mul, mul-le-mul_right}
@@ -15,12 +15,14 @@ use Rattle.sha_tree.specs.Path.{IsDerived, NoClash}
 use Rattle.sha_tree.proofs.Sound.{derived_more}
 use Rattle.verity_path.specs.States.{Met}
 use Rattle.verity_path.specs.Calls.{IsOnPath}
+use Rattle.verity_path.specs.Order.{asked_in, blocks_calls, walk_calls}
 use Rattle.verity_path.specs.Pieces.{IsPiece, IsHashed}
 use Rattle.verity_path.specs.Walk.{IsProved, WalkOutcome}
-use Rattle.verity_path.specs.Range.{end_of, touched, most_answers, IsForRead, IsCut, RangeOutcome, RangeSoFar}
+use Rattle.verity_path.specs.Range.{end_of, touched, most_answers, read_calls, IsForRead, IsCut, RangeOutcome, RangeSoFar}
 use Rattle.verity_path.specs.declared.walk.Layout.{Layout}
 use Rattle.verity_path.specs.declared.walk.Layout.TheVariants.{File}
 use Rattle.verity_path.specs.declared.walk.WalkFault.{WalkFault}
+use Rattle.verity_path.proofs.Order.{asked-append, later_order}
 use Rattle.verity_path.proofs.Walking.{piece_left, piece_right, sound}
 use Rattle.verity_path.proofs.Blaming.{blame_later, blame_so}
 
@@ -82,6 +84,37 @@ cut_more x y m offset mid end i bytes page is le_end le_block size cut piece der
 touched_some : (offset end : ℕ) → offset < end → touched offset end ≡ (end + 4095) / 4096 - offset / 4096
 touched_some offset end lt = grind (arith, lt)
 
+touched_none : (offset end : ℕ) → end ≤ offset → touched offset end ≡ 0
+touched_none offset end le = grind (arith, le)
+
+-- ---- the calls for some blocks
+
+module _ (layout : Layout) (m : Measure) where
+  abbrev walk_of : ℕ → List Call
+  walk_of block = walk_calls layout m.blocks block (top m.blocks)
+
+  -- those of a block more
+  blocks-snoc : (n block : ℕ) → blocks_calls layout m block (suc n) ≡ blocks_calls layout m block n ++ walk_of (block + n)
+  blocks-snoc zero block = let same : block + 0 ≡ block = omega arith in append-nil (walk_of block) ∙ ap walk_of (sym same)
+  blocks-snoc (suc n) block =
+      let same : suc block + n ≡ block + suc n = omega arith in
+      ap (λ (cs : List Call). walk_of block ++ cs) (blocks-snoc n (suc block) ∙ ap (λ (k : ℕ). blocks_calls layout m (suc block) n ++ walk_of k) same)
+      ∙ sym (append_assoc (walk_of block) (blocks_calls layout m (suc block) n) (walk_of (block + suc n)))
+
+  -- those of the blocks before one, its own, and those behind it
+  blocks-cut : (k r total block : ℕ) → total ≡ k + suc r
+      → blocks_calls layout m block k ++ (walk_of (block + k) ++ blocks_calls layout m (suc (block + k)) r) ≡ blocks_calls layout m block total
+  blocks-cut zero r total block is =
+      let same : block + 0 ≡ block = omega arith in
+      let all : total ≡ suc r = omega (arith, is) in
+      ap (λ (b : ℕ). walk_of b ++ blocks_calls layout m (suc b) r) same ∙ ap (blocks_calls layout m block) (sym all)
+  blocks-cut (suc k) r zero block is = absurd (omega (arith, is))
+  blocks-cut (suc k) r (suc total) block is =
+      let same : suc block + k ≡ block + suc k = omega arith in
+      append_assoc (walk_of block) (blocks_calls layout m (suc block) k) _
+      ∙ ap (λ (cs : List Call). walk_of block ++ cs)
+      (ap (λ (b : ℕ). blocks_calls layout m (suc block) k ++ (walk_of b ++ blocks_calls layout m (suc b) r)) (sym same) ∙ blocks-cut k r total (suc block) (omega (arith, is)))
+
 -- the answers of the blocks before one
 abbrev pub answers_to : Measure → ℕ → ℕ → ℕ
 answers_to m offset index = (index - offset / 4096) * (top m.blocks + 1)
@@ -90,8 +123,10 @@ module _ (layout : Layout) (m : Measure) (size offset len end : ℕ) (end_is : e
   path_for : (index : ℕ) (call : Call) → offset / 4096 ≤ index → 4096 * index < end → IsOnPath layout m index call → IsForRead layout m size offset len call
   path_for index call from to path = record { block = index; some = rw (← end_is) some; from = from; to = rw (← end_is) to; path = path }
 
-  pub range_start : (a : Told) (bytes : List ℕ) → bytes ≡ [] → Did (IsForRead layout m size offset len) (answers_to m offset (offset / 4096)) a a (RangeSoFar m offset end (offset / 4096) bytes)
-  range_start a bytes none = rw none (did_none _ _ a _ (refl, cut_none [] m offset _ (omega arith)))
+  pub range_start : (a : Told) (bytes : List ℕ) → bytes ≡ [] → Did (IsForRead layout m size offset len) (answers_to m offset (offset / 4096)) a a (RangeSoFar layout m offset end (offset / 4096) bytes)
+  range_start a bytes none =
+      let no : offset / 4096 - offset / 4096 ≡ 0 = omega arith in
+      rw none (did_none _ _ a _ (refl, cut_none [] m offset _ (omega arith), ap (blocks_calls layout m (offset / 4096)) (sym no)))
 
   more_answers : (index : ℕ) → offset / 4096 ≤ index → answers_to m offset index + (top m.blocks + 1) ≡ answers_to m offset (index + 1)
   more_answers index from =
@@ -105,41 +140,59 @@ module _ (layout : Layout) (m : Measure) (size offset len end : ℕ) (end_is : e
   answers_low : (index last : ℕ) → index ≤ last → answers_to m offset index ≤ answers_to m offset last
   answers_low index last le = mul-le-mul_right (top m.blocks + 1) (omega (arith, le))
 
-  pub range_on : (a b c : Told) (index : ℕ) (bytes : List ℕ) (p : Met) → offset / 4096 ≤ index → 4096 * index < end → Did (IsForRead layout m size offset len) (answers_to m offset index) a b (RangeSoFar m offset end index bytes)
-      → Did (IsOnPath layout m index) (top m.blocks + 1) b c (λ t. IsProved m index t p)
-      → Did (IsForRead layout m size offset len) (answers_to m offset (index + 1)) a c (RangeSoFar m offset end (index + 1)
+  pub range_on : (a b c : Told) (index : ℕ) (bytes : List ℕ) (p : Met) → offset / 4096 ≤ index → 4096 * index < end → Did (IsForRead layout m size offset len) (answers_to m offset index) a b (RangeSoFar layout m offset end index bytes)
+      → Did (IsOnPath layout m index) (top m.blocks + 1) b c (WalkOutcome layout m index (Ok p))
+      → Did (IsForRead layout m size offset len) (answers_to m offset (index + 1)) a c (RangeSoFar layout m offset end (index + 1)
       (bytes ++ slice_range p.page (max offset (4096 * index) - 4096 * index) (min end (4096 * index + 4096) - 4096 * index)))
   range_on a b c index bytes p from to d e =
       let mid = max offset (4096 * index) in
       let here : min end mid ≡ mid = omega arith in
       let there : min end (max offset (4096 * (index + 1))) ≡ min end (4096 * index + 4096) = omega arith in
       let part : (min end (4096 * index + 4096) - 4096 * index) - (mid - 4096 * index) ≡ min end (4096 * index + 4096) - mid = omega arith in
+      let next : index + 1 - offset / 4096 ≡ suc (index - offset / 4096) = omega (arith, from) in
+      let at : offset / 4096 + (index - offset / 4096) ≡ index = omega (arith, from) in
       rw (← more_answers index from) (did_then _ _ _ a b c _ _ _ d (did_so _ _ _ _ b c _ _ e (λ call. path_for index call from to) (omega arith) (λ t q. q)) (λ t so. so.0) (λ x y failed le so proved. (
-        proved.failed,
-        rw (there, part) (cut_more x y m offset mid (min end (4096 * index + 4096)) index bytes p.page refl (omega arith) (omega arith) proved.len
-            (rw here at so.1) proved.piece proved.derived),
+        proved.0.failed,
+        rw (there, part) (cut_more x y m offset mid (min end (4096 * index + 4096)) index bytes p.page refl (omega arith) (omega arith) proved.0.len
+            (rw here at so.1) proved.0.piece proved.0.derived),
+        asked-append x y ∙ ap (λ (cs : List Call). cs ++ asked_in y) so.2 ∙ ap (λ (cs : List Call). blocks_calls layout m (offset / 4096) (index - offset / 4096) ++ cs) proved.1
+            ∙ ap (λ (b : ℕ). blocks_calls layout m (offset / 4096) (index - offset / 4096) ++ walk_of layout m b) (sym at)
+            ∙ sym (blocks-snoc layout m (index - offset / 4096) (offset / 4096)) ∙ ap (blocks_calls layout m (offset / 4096)) (sym next),
       )))
 
-  pub range_bad : (a b c : Told) (index : ℕ) (bytes left : List ℕ) (f : WalkFault) → offset / 4096 ≤ index → 4096 * index < end → Did (IsForRead layout m size offset len) (answers_to m offset index) a b (RangeSoFar m offset end index bytes)
+  pub range_bad : (a b c : Told) (index : ℕ) (bytes left : List ℕ) (f : WalkFault) → offset / 4096 ≤ index → 4096 * index < end → Did (IsForRead layout m size offset len) (answers_to m offset index) a b (RangeSoFar layout m offset end index bytes)
       → Did (IsOnPath layout m index) (top m.blocks + 1) b c (WalkOutcome layout m index (Err f)) → Did (IsForRead layout m size offset len) (most_answers m size offset len) a c (RangeOutcome layout m size offset len left (Err f))
   range_bad a b c index bytes left f from to d e =
       let last : index + 1 ≤ (end + 4095) / 4096 = omega arith in
       let low = answers_low (index + 1) ((end + 4095) / 4096) last in
       let both : answers_to m offset index + (top m.blocks + 1) ≤ most_answers m size offset len = rw (all_answers, more_answers index from) low in
-      let all = did_then _ _ _ a b c _ _ (RangeOutcome layout m size offset len left (Err f)) d (did_so _ _ _ _ b c _ _ e (λ call. path_for index call from to) (omega arith) (λ t q. q)) (λ t so. so.0) (λ x y failed le so blame.
-      blame_later layout m (IsForRead layout m size offset len) a b c x y failed f le (blame_so layout m (IsOnPath layout m index) (IsForRead layout m size offset len) _ f (λ call. path_for index call from to) blame)) in
+      let at : offset / 4096 + (index - offset / 4096) ≡ index = omega (arith, from) in
+      let count : touched offset (end_of size offset len) ≡ (index - offset / 4096) + suc ((end + 4095) / 4096 - (index + 1)) =
+      rw (← end_is) (touched_some offset end some ∙ omega (arith, from, last)) in
+      let cut = blocks-cut layout m (index - offset / 4096) ((end + 4095) / 4096 - (index + 1)) (touched offset (end_of size offset len)) (offset / 4096) count in
+      let whole : blocks_calls layout m (offset / 4096) (index - offset / 4096) ++ (walk_of layout m index ++ blocks_calls layout m (suc index) ((end + 4095) / 4096 - (index + 1)))
+          ≡ read_calls layout m size offset len =
+      ap (λ (b : ℕ). blocks_calls layout m (offset / 4096) (index - offset / 4096) ++ (walk_of layout m b ++ blocks_calls layout m (suc b) ((end + 4095) / 4096 - (index + 1)))) (sym at) ∙ cut in
+      let all = did_then _ _ _ a b c _ _ (RangeOutcome layout m size offset len left (Err f)) d (did_so _ _ _ _ b c _ _ e (λ call. path_for index call from to) (omega arith) (λ t q. q)) (λ t so. so.0) (λ x y failed le so blame. (
+        blame_later layout m (IsForRead layout m size offset len) a b c x y failed f le
+            (blame_so layout m (IsOnPath layout m index) (IsForRead layout m size offset len) _ f (λ call. path_for index call from to) blame.0),
+        later_order _ (walk_of layout m index) _ (read_calls layout m size offset len) x y failed a b c whole so.2 blame.1,
+      )) in
       did_so _ _ _ _ a c _ _ all (λ call q. q) both (λ t q. q)
 
-  pub range_end : (a b : Told) (index : ℕ) (bytes : List ℕ) (u : Unit {0}) → index ≡ (end + 4095) / 4096 → Did (IsForRead layout m size offset len) (answers_to m offset index) a b (RangeSoFar m offset end index bytes)
+  pub range_end : (a b : Told) (index : ℕ) (bytes : List ℕ) (u : Unit {0}) → index ≡ (end + 4095) / 4096 → Did (IsForRead layout m size offset len) (answers_to m offset index) a b (RangeSoFar layout m offset end index bytes)
       → Did (IsForRead layout m size offset len) (most_answers m size offset len) a b (RangeOutcome layout m size offset len bytes (Ok u))
   range_end a b index bytes u last d =
       let e : min end (max offset (4096 * index)) ≡ end_of size offset len = omega (arith, last, end_is, some) in
-      did_so _ _ _ _ a b _ _ d (λ call q. q) (rw (all_answers, last) (omega arith)) (λ t so. (so.0, rw e at so.1))
+      let count : index - offset / 4096 ≡ touched offset (end_of size offset len) =
+      rw (← end_is) (ap (λ (n : ℕ). n - offset / 4096) last ∙ sym (touched_some offset end some)) in
+      did_so _ _ _ _ a b _ _ d (λ call q. q) (rw (all_answers, last) (omega arith)) (λ t so. (so.0, rw e at so.1, so.2 ∙ ap (blocks_calls layout m (offset / 4096)) count))
 
 -- an empty range
 pub range_none : (layout : Layout) (m : Measure) (size offset len : ℕ) (a : Told) (bytes : List ℕ) (u : Unit {0}) → end_of size offset len ≤ offset → bytes ≡ [] →
     Did (IsForRead layout m size offset len) (most_answers m size offset len) a a (RangeOutcome layout m size offset len bytes (Ok u))
-range_none layout m size offset len a bytes u le none = rw none (did_none _ _ a _ (refl, cut_none [] m offset _ le))
+range_none layout m size offset len a bytes u le none =
+    rw none (did_none _ _ a _ (refl, cut_none [] m offset _ le, ap (blocks_calls layout m (offset / 4096)) (sym (touched_none offset (end_of size offset len) le))))
 
 -- more heard ties no less
 pub cut_wider : (heard own : Exchanges) (m : Measure) (offset end : ℕ) (bytes : List ℕ) → IsCut own m offset end bytes → IsCut (heard ++ own) m offset end bytes

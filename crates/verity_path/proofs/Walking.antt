@@ -1,5 +1,5 @@
 -- A walk, page by page.
-use Rattle.std.proofs.Common.{◌≡◌, ℕ, ◌+◌, ◌-◌, ◌/◌, ◌%◌, ◌<◌, ◌≤◌, ◌∙◌, List, [], ◌++◌, Result, Ok, Err, refl, ap, sym, subst, arith, inl, inr}
+use Rattle.std.proofs.Common.{◌≡◌, ℕ, ◌+◌, ◌-◌, ◌/◌, ◌%◌, ◌<◌, ◌≤◌, ◌∙◌, List, [], ◌∷◌, ◌++◌, zero, suc, append_assoc, append-nil, Result, Ok, Err, refl, ap, sym, subst, arith, inl, inr}
 use Rattle.host_traits.specs.declared.calls.Call.{Call}
 use Rattle.host_traits.specs.Told.{Told, Exchanges}
 use Rattle.host_traits.specs.Did.{Trace, trace_of, Did}
@@ -12,12 +12,14 @@ use Rattle.sha_tree.proofs.Levels.{ancestor-top, ancestor-page, ancestor-above, 
 use Rattle.sha_tree.proofs.Sound.{derived_more, derived_top, derived_below, all_sound}
 use Rattle.verity_path.specs.States.{Place, Met, IsMet}
 use Rattle.verity_path.specs.Calls.{IsOnPath, call_for}
+use Rattle.verity_path.specs.Order.{IsInOrder, asked_in, walk_calls}
 use Rattle.verity_path.specs.Pieces.{IsPiece, IsHashed}
 use Rattle.verity_path.specs.Steps.{IsCallFor, IsFetched, IsFetchBlame, ProvedOutcome, IsBelow}
 use Rattle.verity_path.specs.Walk.{IsWalkBlame, IsProved, WalkOutcome}
 use Rattle.verity_path.specs.declared.walk.Layout.{Layout}
 use Rattle.verity_path.specs.declared.walk.WalkFault.{WalkFault}
 use Rattle.verity_path.specs.declared.walk.WalkFault.TheVariants as fault
+use Rattle.verity_path.proofs.Order.{asked-append, did_in_order, later_order}
 
 pub piece_left : (x y : Exchanges) (p : List ℕ) → IsPiece x p → IsPiece (x ++ y) p
 piece_left x y p i = record { call = i.call; said = i.said; was_heard = in_left i.call i.said x y i.was_heard; piece = i.piece }
@@ -38,9 +40,12 @@ on_path layout m block count level index same low is call c = record {
 hash_met : (m : Measure) (a : Place) (p : List ℕ) → a.salt ≡ m.salt → page_hash a.salt p ≡ a.digest → a.digest ≡ page_hash m.salt p
 hash_met m a p salt met = sym met ∙ ap (λ (s : List ℕ). page_hash s p) salt
 
--- where a walk stands: no call failed, the anchor is that of the page over the block, and its digest is tied to that place
-abbrev pub Stands : Measure → ℕ → ℕ → Place → Trace → Type 0
-Stands m block level a t = (t.failed ≡ 0) × IsDerived (IsPiece t.own) m level (ancestor block level) a.digest
+-- where a walk stands: no call failed, the anchor is that of the page over the block, its digest is tied to that place, and the
+-- calls so far are those above the level
+abbrev pub Stands : Layout → Measure → ℕ → ℕ → Place → Trace → Type 0
+Stands layout m block level a t =
+    (t.failed ≡ 0) × IsDerived (IsPiece t.own) m level (ancestor block level) a.digest
+    × (asked_in t.own ++ walk_calls layout m.blocks block level ≡ walk_calls layout m.blocks block (top m.blocks))
 
 -- the anchor of a level on the way to a block
 pub record IsAt (m : Measure) (block level : ℕ) (a : Place) : Type 0 where
@@ -62,11 +67,46 @@ next_at m block layout count a b level t some at q =
 
 module _ (layout : Layout) (m : Measure) (block count : ℕ) (same : count ≡ m.blocks) (within : block < m.blocks) where
   pub begins : (a : Place) (level : ℕ) (told : Told) → m.blocks ≤ 1048576 → level ≡ top m.blocks → a.digest ≡ m.root.0 →
-      Did (IsOnPath layout m block) (top m.blocks - level) told told (Stands m block level a)
+      Did (IsOnPath layout m block) (top m.blocks - level) told told (Stands layout m block level a)
   begins a level told limit is root =
       let zero_is : ancestor block level ≡ 0 = ap (ancestor block) is ∙ ancestor-top m.blocks block within limit in
-      did_none (IsOnPath layout m block) (top m.blocks - level) told (Stands m block level a)
-      (refl, rw (zero_is, is, root) (derived_top (IsPiece []) m (omega arith) limit))
+      did_none (IsOnPath layout m block) (top m.blocks - level) told (Stands layout m block level a)
+      (refl, rw (zero_is, is, root) (derived_top (IsPiece []) m (omega arith) limit), ap (walk_calls layout m.blocks block) is)
+
+  -- ---- the order of the calls
+
+  abbrev all_calls : List Call
+  all_calls = walk_calls layout m.blocks block (top m.blocks)
+
+  abbrev below_calls : ℕ → List Call
+  below_calls zero = []
+  below_calls (suc level) = walk_calls layout m.blocks block level
+
+  first_call : (level : ℕ) → walk_calls layout m.blocks block level ≡ call_for layout m.blocks level (ancestor block level) ∷ below_calls level
+  first_call zero = refl
+  first_call (suc level) = refl
+
+  -- the call for an anchor's page is the one of its level
+  here_call : (a : Place) (level : ℕ) → IsAt m block level a → call_for layout count a.level a.index ≡ call_for layout m.blocks level (ancestor block level)
+  here_call a level at =
+      ap (λ (n : ℕ). call_for layout n a.level a.index) same ∙ ap (λ (l : ℕ). call_for layout m.blocks l a.index) at.level_is
+      ∙ ap (call_for layout m.blocks level) at.index_is
+
+  -- what is left begins with it
+  cut_calls : (u : Exchanges) (a : Place) (level : ℕ) → IsAt m block level a → asked_in u ++ walk_calls layout m.blocks block level ≡ all_calls
+      → asked_in u ++ (call_for layout count a.level a.index ∷ below_calls level) ≡ all_calls
+  cut_calls u a level at so =
+      ap (λ (c : Call). asked_in u ++ (c ∷ below_calls level)) (here_call a level at) ∙ ap (λ (cs : List Call). asked_in u ++ cs) (sym (first_call level)) ∙ so
+
+  called : (u v : Exchanges) (a : Place) (level : ℕ) → IsAt m block level a → asked_in u ++ walk_calls layout m.blocks block level ≡ all_calls
+      → asked_in v ≡ call_for layout count a.level a.index ∷ [] → asked_in (u ++ v) ++ below_calls level ≡ all_calls
+  called u v a level at so one =
+      ap (λ (cs : List Call). cs ++ below_calls level) (asked-append u v) ∙ append_assoc (asked_in u) (asked_in v) (below_calls level)
+      ∙ ap (λ (cs : List Call). asked_in u ++ (cs ++ below_calls level)) one ∙ cut_calls u a level at so
+
+  below_is : (level : ℕ) → 0 < level → below_calls level ≡ walk_calls layout m.blocks block (level - 1)
+  below_is zero some = absurd (omega (arith, some))
+  below_is (suc level) some = let less : suc level - 1 ≡ level = omega arith in ap (walk_calls layout m.blocks block) (sym less)
 
   -- the call for an anchor's page is on the path
   path : (a : Place) (level : ℕ) → IsAt m block level a → (call : Call) → IsCallFor layout count a.level a.index call → IsOnPath layout m block call
@@ -95,16 +135,20 @@ module _ (layout : Layout) (m : Measure) (block count : ℕ) (same : count ≡ m
       (q.digest_is ∙ ap (λ (l : ℕ). slot q.page (ancestor block (l - 1) % 128)) at.level_is)
 
   pub goes_on : (a b : Place) (level : ℕ) (x y z : Told) → 0 < level → IsAt m block level a →
-      Did (IsOnPath layout m block) (top m.blocks - level) x y (Stands m block level a) →
+      Did (IsOnPath layout m block) (top m.blocks - level) x y (Stands layout m block level a) →
       Did (IsCallFor layout count a.level a.index) 1 y z (λ t. IsBelow layout count block a t b) →
-      Did (IsOnPath layout m block) (top m.blocks - (level - 1)) x z (Stands m block (level - 1) b)
+      Did (IsOnPath layout m block) (top m.blocks - (level - 1)) x z (Stands layout m block (level - 1) b)
   goes_on a b level x y z some at d e =
       let low = at.low in
       let one = did_so (IsCallFor layout count a.level a.index) (IsOnPath layout m block) 1 1 y z _ _ e (path a level at) (omega arith) (λ t q. q) in
-      let all : Did (IsOnPath layout m block) (top m.blocks - level + 1) x z (Stands m block (level - 1) b) =
-      did_then (IsOnPath layout m block) (top m.blocks - level) 1 x y z (Stands m block level a) (λ t. IsBelow layout count block a t b)
-      (Stands m block (level - 1) b) d one (λ t p. p.0)
-      (λ u v failed le p q. (q.fetched.failed, below u v _ a b level some at p.1 refl q)) in
+      let all : Did (IsOnPath layout m block) (top m.blocks - level + 1) x z (Stands layout m block (level - 1) b) =
+      did_then (IsOnPath layout m block) (top m.blocks - level) 1 x y z (Stands layout m block level a) (λ t. IsBelow layout count block a t b)
+      (Stands layout m block (level - 1) b) d one (λ t p. p.0)
+      (λ u v failed le p q. (
+        q.fetched.failed,
+        below u v _ a b level some at p.1 refl q,
+        ap (λ (cs : List Call). asked_in (u ++ v) ++ cs) (sym (below_is level some)) ∙ called u v a level at p.2 (ap asked_in q.fetched.own),
+      )) in
       did_so (IsOnPath layout m block) (IsOnPath layout m block) (top m.blocks - level + 1) (top m.blocks - (level - 1)) x z _ _ all
       (λ call f. f) (omega arith) (λ t q. q)
 
@@ -130,15 +174,21 @@ module _ (layout : Layout) (m : Measure) (block count : ℕ) (same : count ≡ m
   blamed u v failed x y z a level fault.Memory le at d q = scarce_later x y z u v failed q
 
   pub fails : (a : Place) (level : ℕ) (x y z : Told) (fault : WalkFault) → IsAt m block level a →
-      Did (IsOnPath layout m block) (top m.blocks - level) x y (Stands m block level a) →
+      Did (IsOnPath layout m block) (top m.blocks - level) x y (Stands layout m block level a) →
       Did (IsCallFor layout count a.level a.index) 1 y z (λ t. IsFetchBlame layout count a t fault) →
       Did (IsOnPath layout m block) (top m.blocks + 1) x z (WalkOutcome layout m block (Err fault))
   fails a level x y z fault at d e =
-      let one = did_so (IsCallFor layout count a.level a.index) (IsOnPath layout m block) 1 1 y z _ _ e (path a level at) (omega arith) (λ t q. q) in
+      let call : Call = call_for layout count a.level a.index in
+      let ordered = did_in_order (IsCallFor layout count a.level a.index) call y z (λ t. IsFetchBlame layout count a t fault) (λ c f. f.call_is) e in
+      let one = did_so (IsCallFor layout count a.level a.index) (IsOnPath layout m block) 1 1 y z _ _ ordered (path a level at) (omega arith) (λ t q. q) in
       let all : Did (IsOnPath layout m block) (top m.blocks - level + 1) x z (WalkOutcome layout m block (Err fault)) =
-      did_then (IsOnPath layout m block) (top m.blocks - level) 1 x y z (Stands m block level a) (λ t. IsFetchBlame layout count a t fault)
+      did_then (IsOnPath layout m block) (top m.blocks - level) 1 x y z (Stands layout m block level a)
+      (λ t. IsInOrder (call ∷ []) t × IsFetchBlame layout count a t fault)
       (WalkOutcome layout m block (Err fault)) d one (λ t p. p.0)
-      (λ u v failed le p q. blamed u v failed x y z a level fault le at p.1 q) in
+      (λ u v failed le p q. (
+        blamed u v failed x y z a level fault le at p.1 q.1,
+        later_order (asked_in u) (call ∷ []) (below_calls level) all_calls u v failed x y z (cut_calls u a level at p.2) refl q.0,
+      )) in
       did_so (IsOnPath layout m block) (IsOnPath layout m block) (top m.blocks - level + 1) (top m.blocks + 1) x z _ _ all
       (λ call f. f) (omega arith) (λ t q. q)
 
@@ -169,17 +219,20 @@ module _ (layout : Layout) (m : Measure) (block count : ℕ) (same : count ≡ m
       }
 
   pub ends : (a : Place) (level : ℕ) (x y z : Told) (r : Result Met WalkFault) → level ≡ 0 → IsAt m block level a →
-      Did (IsOnPath layout m block) (top m.blocks - level) x y (Stands m block level a) →
+      Did (IsOnPath layout m block) (top m.blocks - level) x y (Stands layout m block level a) →
       Did (IsCallFor layout count a.level a.index) 1 y z (ProvedOutcome layout count a r) →
       Did (IsOnPath layout m block) (top m.blocks + 1) x z (WalkOutcome layout m block r)
   ends a level x y z (Ok p) none at d e =
       let at_zero : IsAt m block 0 a = subst (λ (l : ℕ). IsAt m block l a) none at in
       let one = did_so (IsCallFor layout count a.level a.index) (IsOnPath layout m block) 1 1 y z _ _ e (path a level at) (omega arith) (λ t q. q) in
       let all : Did (IsOnPath layout m block) (top m.blocks - level + 1) x z (WalkOutcome layout m block (Ok p)) =
-      did_then (IsOnPath layout m block) (top m.blocks - level) 1 x y z (Stands m block level a) (λ t. IsFetched layout count a t p.page × (p.anchor ≡ a))
+      did_then (IsOnPath layout m block) (top m.blocks - level) 1 x y z (Stands layout m block level a) (λ t. IsFetched layout count a t p.page × (p.anchor ≡ a))
       (WalkOutcome layout m block (Ok p)) d one (λ t s. s.0)
-      (λ u v failed le s q. proved u v failed x y z a p at_zero
-      (subst (λ (l : ℕ). IsDerived (IsPiece u) m l (ancestor block l) a.digest) none s.1) q.1 q.0) in
+      (λ u v failed le s q. (
+        proved u v failed x y z a p at_zero (subst (λ (l : ℕ). IsDerived (IsPiece u) m l (ancestor block l) a.digest) none s.1) q.1 q.0,
+        sym (append-nil (asked_in (u ++ v))) ∙ called u v a 0 at_zero
+            (subst (λ (l : ℕ). asked_in u ++ walk_calls layout m.blocks block l ≡ all_calls) none s.2) (ap asked_in q.0.own),
+      )) in
       did_so (IsOnPath layout m block) (IsOnPath layout m block) (top m.blocks - level + 1) (top m.blocks + 1) x z _ _ all
       (λ call f. f) (omega arith) (λ t q. q)
   ends a level x y z (Err fault) none at d e = fails a level x y z fault at d e

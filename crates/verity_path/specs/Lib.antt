@@ -2,6 +2,7 @@ pub mod States
 pub mod Calls
 pub mod Pieces
 pub mod Steps
+pub mod Order
 pub mod Walk
 pub mod Range
 pub mod Lies

@@ -7,6 +7,7 @@ use Rattle.sha_tree.specs.declared.measure.Measure.{Measure}
 use Rattle.sha_tree.specs.Tree.{div_up, page_hash, top}
 use Rattle.sha_tree.specs.Path.{IsDerived}
 use Rattle.verity_path.specs.Calls.{IsOnPath}
+use Rattle.verity_path.specs.Order.{IsInOrder, asked_in, blocks_calls}
 use Rattle.verity_path.specs.Pieces.{IsPiece}
 use Rattle.verity_path.specs.Walk.{IsMismatch, IsWalkBlame}
 use Rattle.verity_path.specs.declared.walk.Layout.{Layout}
@@ -46,14 +47,23 @@ abbrev pub IsSlice : Option (List ℕ) → Exchanges → Measure → ℕ → ℕ
 IsSlice (Some content) heard m size offset len bytes = bytes ≡ take len (drop offset content)
 IsSlice None heard m size offset len bytes = IsCut heard m offset (end_of size offset len) bytes
 
--- what came of a read of a range; no call failed where its bytes are given
+-- the calls of a read: of each touched block, in rising order, those from the top page down
+abbrev pub read_calls : Layout → Measure → ℕ → ℕ → ℕ → List Call
+read_calls layout m size offset len = blocks_calls layout m (offset / 4096) (touched offset (end_of size offset len))
+
+-- What came of a read of a range. Where its bytes are given, no call failed, and each of its calls was made, in their order; with
+-- a fault the first of them, in that order.
 abbrev pub RangeOutcome : Layout → Measure → ℕ → ℕ → ℕ → List ℕ → Result (Unit {0}) WalkFault → Trace → Type 0
-RangeOutcome layout m size offset len bytes (Ok _) t = (t.failed ≡ 0) × IsCut t.own m offset (end_of size offset len) bytes
-RangeOutcome layout m size offset len bytes (Err fault) t = IsWalkBlame layout m (IsForRead layout m size offset len) t fault
+RangeOutcome layout m size offset len bytes (Ok _) t =
+    (t.failed ≡ 0) × IsCut t.own m offset (end_of size offset len) bytes × (asked_in t.own ≡ read_calls layout m size offset len)
+RangeOutcome layout m size offset len bytes (Err fault) t =
+    IsWalkBlame layout m (IsForRead layout m size offset len) t fault × IsInOrder (read_calls layout m size offset len) t
 
 -- the blocks below index are read
-abbrev pub RangeSoFar : Measure → ℕ → ℕ → ℕ → List ℕ → Trace → Type 0
-RangeSoFar m offset end index bytes t = (t.failed ≡ 0) × IsCut t.own m offset (min end (max offset (4096 * index))) bytes
+abbrev pub RangeSoFar : Layout → Measure → ℕ → ℕ → ℕ → List ℕ → Trace → Type 0
+RangeSoFar layout m offset end index bytes t =
+    (t.failed ≡ 0) × IsCut t.own m offset (min end (max offset (4096 * index))) bytes
+    × (asked_in t.own ≡ blocks_calls layout m (offset / 4096) (index - offset / 4096))
 
 -- the cause of a read that was not answered, in what was heard for it
 abbrev pub IsReadBlame : Layout → Measure → (Call → Type 0) → Trace → Cause → Type 0

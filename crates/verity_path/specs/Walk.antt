@@ -4,11 +4,12 @@ use Rattle.host_traits.specs.declared.calls.Call.{Call}
 use Rattle.host_traits.specs.declared.calls.Said.TheVariants.{Bytes}
 use Rattle.host_traits.specs.Did.{IsIn, Trace, IsShort, IsFailed, IsScarce}
 use Rattle.sha_tree.specs.declared.measure.Measure.{Measure}
-use Rattle.sha_tree.specs.Tree.{block, page_hash}
+use Rattle.sha_tree.specs.Tree.{block, page_hash, top}
 use Rattle.sha_tree.specs.Measured.{HasTree}
 use Rattle.sha_tree.specs.Path.{IsDerived, NoClash}
 use Rattle.verity_path.specs.States.{Met, IsMet}
 use Rattle.verity_path.specs.Calls.{IsOnPath, call_for, piece_for}
+use Rattle.verity_path.specs.Order.{IsInOrder, asked_in, walk_calls}
 use Rattle.verity_path.specs.Pieces.{IsPieceOf, IsPiece, IsHashed}
 use Rattle.verity_path.specs.declared.states.Mismatch.{Mismatch}
 use Rattle.verity_path.specs.declared.walk.Layout.{Layout}
@@ -46,7 +47,10 @@ pub record IsProved (m : Measure) (index : ℕ) (t : Trace) (p : Met) : Type 0 w
   pub salt_is : p.anchor.salt ≡ m.salt
   pub met : IsMet p
 
--- what came of a walk to a block
+-- what came of a walk to a block: with the page each call of the walk was made, from the top page down; with a fault the first of
+-- them, in that order
 abbrev pub WalkOutcome : Layout → Measure → ℕ → Result Met WalkFault → Trace → Type 0
-WalkOutcome layout m index (Ok p) t = IsProved m index t p
-WalkOutcome layout m index (Err fault) t = IsWalkBlame layout m (IsOnPath layout m index) t fault
+WalkOutcome layout m index (Ok p) t =
+    IsProved m index t p × (asked_in t.own ≡ walk_calls layout m.blocks index (top m.blocks))
+WalkOutcome layout m index (Err fault) t =
+    IsWalkBlame layout m (IsOnPath layout m index) t fault × IsInOrder (walk_calls layout m.blocks index (top m.blocks)) t

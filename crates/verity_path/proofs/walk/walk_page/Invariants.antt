@@ -9,7 +9,7 @@ use Rattle.verity_path.proofs.walk.walk_page.Given as goal
 abbrev pub invariant-levels : goal.invariant-levels
 invariant-levels g l = record {
   at : IsAt l.measure l.index l.level l.anchor;
-  did : Did (IsOnPath l.layout l.measure l.index) (top l.measure.blocks - l.level) (g.H.Host.told l.initial.host) (g.H.Host.told l.host) (Stands l.measure l.index l.level l.anchor);
+  did : Did (IsOnPath l.layout l.measure l.index) (top l.measure.blocks - l.level) (g.H.Host.told l.initial.host) (g.H.Host.told l.host) (Stands l.layout l.measure l.index l.level l.anchor);
   held : WhereHeld l.layout l.measure (g.H.Host.told l.initial.host) (g.H.Host.told l.host) (λ content. IsAnchored l.measure content l.anchor);
 }
 
