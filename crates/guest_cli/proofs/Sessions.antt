@@ -55,6 +55,13 @@ module _ (items : List Device) (r s : State) (a b : Told) (out_a out_b log_a log
         ran = ran_both items r s t a b c o.at out_a out_b out_c log_a log_b log_c turns (turn ∷ []) so.ran (subst (λ k. Ran items s t b c k out_b out_c log_b log_c (turn ∷ [])) place one);
       }
 
+  -- the same, with the turns that it makes
+  pub held_next : (t : State) (c : Told) (out_c log_c : Option (List ℕ)) (n : Held) (payload rest : List ℕ) → Fronts m.held 1 payload rest → n ≡ held_at rest (m.at + length (frame 1 payload))
+      → ((heard : Exchanges) → b.heard ≡ Some heard → heard_size heard < 2 ^ 30)
+      → Taken items s t b c (read_frame payload) (λ sent cause. Appends out_b out_c (reply_frame sent) × Appends log_b log_c (log_line m.at cause))
+      → (all : List Turn) × Answered items r t a c out_a out_c log_a log_c o n all
+  held_next t c out_c log_c n payload rest f is few w = (_, held_on t c out_c log_c n payload rest f is few w)
+
   -- one frame more, its line or reply written in part
   pub held_cut : (t : State) (c : Told) (out_c log_c : Option (List ℕ)) (payload : List ℕ) → ((heard : Exchanges) → b.heard ≡ Some heard → heard_size heard < 2 ^ 30)
       → (w : Taken items s t b c (read_frame payload) (λ sent cause. ((out_c ≡ out_b) × SomePrefix log_b log_c (log_line m.at cause)) ⊎ (SomePrefix out_b out_c (reply_frame sent) × Appends log_b log_c (log_line m.at cause))))
@@ -67,6 +74,14 @@ module _ (items : List Device) (r s : State) (a b : Told) (out_a out_b log_a log
     logged = so.ran.logged;
     part = rw (← so.went.at) w.written;
   }
+
+  -- so the session stops there
+  pub held_stop : (t : State) (c : Told) (out_c log_c : Option (List ℕ)) (payload rest : List ℕ) → Fronts m.held 1 payload rest
+      → ((heard : Exchanges) → b.heard ≡ Some heard → heard_size heard < 2 ^ 30)
+      → Taken items s t b c (read_frame payload) (λ sent cause. ((out_c ≡ out_b) × SomePrefix log_b log_c (log_line m.at cause)) ⊎ (SomePrefix out_b out_c (reply_frame sent) × Appends log_b log_c (log_line m.at cause)))
+      → HeldOutcome items r t a c out_a out_c log_a log_c o m (Err stop.Write)
+  held_stop t c out_c log_c payload rest f few w =
+      (turns, turn_of items s t b c (read_frame payload) w.sent w.cause w.step, so.went, record { rest = rest; fronts = f }, held_cut t c out_c log_c payload few w)
 
 -- ---- piece by piece
 

@@ -1,5 +1,5 @@
 -- A read of the device of an `apk` line.
-use Rattle.std.proofs.Common.{◌≡◌, ℕ, ◌×◌, List, Option, None, Some, refl, sym, subst, inl, inr, ⊎_elim, arith}
+use Rattle.std.proofs.Common.{◌≡◌, ℕ, List, Option, None, Some, refl, sym, subst, inl, inr, ⊎_elim, arith}
 use Rattle.std.specs.Prelude.{◌⊎◌, slice_get}
 use Rattle.host_traits.specs.Held.{Held}
 use Rattle.host_traits.specs.Told.{Exchanges, failures_of}
@@ -38,11 +38,11 @@ pub record IsApkKept (h : Held) (disk : ℕ) (items : List Device) (k : ℕ) (m 
 pub apk_kept : (lines : List PlanLine) (booted heard : Exchanges) (new : Booted) (world : World) (h : Held) (k : ℕ) (content : List ℕ) (disk : ℕ) (apk idsig : List ℕ) (how : How) (m : Measure)
     → Boots nothing lines booted new → AreServed lines → item_line lines k ≡ Some (line.Apk disk apk idsig how) → world k ≡ Some content
     → IsWorld new.items world heard → HoldsApk h disk apk idsig how m content → AreTrue h disk booted → IsApkKept h disk new.items k m content
-apk_kept lines booted heard new world h k content disk apk idsig how m boots served at_k is w holds booted_true =
+apk_kept lines booted heard new world h k content disk apk idsig how m boots lines_served at_k is w holds booted_true =
     let found = at_line h disk holds.table (true_table h disk apk idsig how m content holds) apk idsig how lines nothing new booted k k boots (knows_none disk holds.table) booted_true at_k (omega arith) in
     let it : Device = found.boots.device in
     let held = boots_held h disk apk idsig how m content holds found.old found.new found.own found.boots found.known found.heard (w.measured k it content found.is is) in
-    let said = served_line lines k (line.Apk disk apk idsig how) served at_k in
+    let said = served_line lines k (line.Apk disk apk idsig how) lines_served at_k in
     record {
       it = it;
       at = found.is;
@@ -71,8 +71,8 @@ turn_fails items world old turn new r step request =
     (row_fails items world (trace old turn new) r turn.sent turn.cause row.1)
 
 pub apk_reads_served : ApkReadsAreServed
-apk_reads_served lines booted items files world old turn new h r content disk apk idsig how m opens served step request at_k is w holds booted_true read_true =
-    let a = apk_kept lines booted new.heard (record { tables = opens.tables; items = items; files = files }) world h r.item content disk apk idsig how m opens.boots served at_k is w holds booted_true in
+apk_reads_served lines booted items files world old turn new h r content disk apk idsig how m opens lines_served step request at_k is w holds booted_true read_true =
+    let a = apk_kept lines booted new.heard (record { tables = opens.tables; items = items; files = files }) world h r.item content disk apk idsig how m opens.boots lines_served at_k is w holds booted_true in
     let held = a.held in
     let serves = read_serves items world old turn new h r a.it disk held.first held.tree step request a.at held.layout read_true in
     ⊎_elim (λ none. inl (defined_over items world old turn new h r a.it content step request a.at a.item is w serves a.holds none)) (λ f. inr f)

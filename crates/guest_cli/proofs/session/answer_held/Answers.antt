@@ -1,7 +1,7 @@
 use Rattle.std.proofs.Common.{[], ◌∙◌, refl, ap, arith, length}
 use Rattle.session_frames.specs.Frames.{Fronts, Held}
 use Rattle.session_frames.proofs.Heads.{length_of_held}
-use Rattle.guest_cli.proofs.Sessions.{few_heard, held_start, held_on, held_cut}
+use Rattle.guest_cli.proofs.Sessions.{few_heard, held_start, held_next, held_stop}
 use Rattle.guest_cli.proofs.session.answer_held.Goals as goal
 
 pub loop-channel-init : goal.loop-channel-init
@@ -12,13 +12,8 @@ returns-in-Err-clause-held g c =
     let so = c.loop-channel.invariant.answered in
     let f = c.in-Frame.ensures in
     let f1 : Fronts c.loop-channel.splitter.held 1 c.in-Frame.payload.now f.0 = rw c.if-channel-ne1.false at f.1 in
-    let few = few_heard (g.H.Host.told c.loop-channel.host) c.heard_bytes.result c.heard_bytes.ensures c.if-heard_bytes-ge-LIMIT.false in (
-      so.0,
-      _,
-      so.1.went,
-      record { rest = f.0; fronts = f1 },
-      held_cut _ _ _ _ _ _ _ _ _ _ _ so.0 so.1 _ _ _ _ c.in-Frame.payload.now few (rw (c.loop-channel.invariant.items, c.at.ensures) at c.in-Err.ensures.turn),
-    )
+    let few = few_heard (g.H.Host.told c.loop-channel.host) c.heard_bytes.result c.heard_bytes.ensures c.if-heard_bytes-ge-LIMIT.false in
+    held_stop _ _ _ _ _ _ _ _ _ _ _ so.0 so.1 _ _ _ _ c.in-Frame.payload.now f.0 f1 few (rw (c.loop-channel.invariant.items, c.at.ensures) at c.in-Err.ensures.turn)
 
 pub loop-channel-smaller : goal.loop-channel-smaller
 loop-channel-smaller g c =
@@ -36,7 +31,7 @@ loop-channel-preserved g c =
     let few = few_heard (g.H.Host.told c.loop-channel.host) c.heard_bytes.result c.heard_bytes.ensures c.if-heard_bytes-ge-LIMIT.false in
     record {
       items = c.in-Ok.ensures.items ∙ c.loop-channel.invariant.items;
-      answered = (_, held_on _ _ _ _ _ _ _ _ _ _ _ so.0 so.1 _ _ _ _ _ c.in-Frame.payload.now f.0 f1 done few (rw (c.loop-channel.invariant.items, c.at.ensures) at c.in-Ok.ensures.turn));
+      answered = held_next _ _ _ _ _ _ _ _ _ _ _ so.0 so.1 _ _ _ _ _ c.in-Frame.payload.now f.0 f1 done few (rw (c.loop-channel.invariant.items, c.at.ensures) at c.in-Ok.ensures.turn);
       outs = omega (arith, c.loop-channel.invariant.outs, c.in-Ok.ensures.out);
       logs = omega (arith, c.loop-channel.invariant.logs, c.in-Ok.ensures.log);
     }
