@@ -1,17 +1,8 @@
-// Where the records of a tape lie in its text.
+// Why bytes are no tape.
 ghost use Rattle.std.specs.Prelude.{◌≡◌};
-ghost use Rattle.host_tape.specs.declared.places.TapeFault.TheVariants.{Memory};
+ghost use Rattle.host_tape.specs.declared.fault.TapeFault.TheVariants.{Memory};
 
 use std::alloc::{AllocError, AllocFailed};
-
-/// A record, with the place of its bytes in the text.
-#[derive(Clone, Copy, Debug, PartialEq, Eq, Drop)]
-pub enum Place {
-    Failed,
-    Done,
-    Number(u64),
-    Bytes { from: usize, len: usize },
-}
 
 /// Why a tape could not be read.
 #[derive(Clone, Copy, Debug, PartialEq, Eq, Drop)]
