@@ -1,8 +1,8 @@
 use Rattle.std.proofs.Common.{List, ℕ, ◌++◌}
 use Rattle.std.specs.Prelude.{codes}
-use Rattle.guest_rules.specs.Run.{line_feed}
-use Rattle.session_frames.proofs.Prefixes.{appends_then, appends_then_ok, prefix_first, prefix_second, prefix_second_err}
-use Rattle.guest_cli.proofs.status.write_file_end.Goals as goal
+use Rattle.text_lines.specs.Ends.{line_feed}
+use Rattle.text_lines.proofs.Prefixes.{appends_then, appends_then_ok, prefix_first, prefix_second, prefix_second_err}
+use Rattle.text_lines.proofs.ends.write_file_end.Goals as goal
 
 abbrev front : List ℕ
 front = codes "end 3 file "
