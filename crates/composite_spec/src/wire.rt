@@ -83,7 +83,8 @@ fn front(at: u64, n: u64, rest: &[u8]) -> Result<(&[u8], &[u8]), SpecFault>
 fn value_of(end: u64, wire: u64, rest: &[u8]) -> Result<(Value<'_>, &[u8]), SpecFault>
     requires { length rest.now ≤ end }
     ensures value { Tells (λ x. (content x.0, x.1.now)) result (value_of end wire rest.now) }
-    ensures inside { IfOk result (λ x. size_of (content x.0) + length x.1.now ≤ length rest.now) }
+    ensures inside { IfOk result
+        (λ x. size_of (content x.0) + length x.1.now ≤ length rest.now) }
 {
     let at = place(end, rest);
     if wire == 0 {
@@ -137,8 +138,8 @@ pub(crate) fn field(
     rest: &[u8],
 ) -> Result<(u64, Value<'_>, &[u8]), SpecFault>
     requires { length rest.now ≤ end }
-    ensures value { Tells (λ x. record { number = x.0; value = content x.1; rest = x.2.now }) result
-        (field message end rest.now) }
+    ensures value { Tells (λ x. record { number = x.0; value = content x.1; rest = x.2.now })
+        result (field message end rest.now) }
     ensures inside { IfOk result (λ x. size_of (content x.1) + length x.2.now < length rest.now) }
 {
     let at = place(end, rest);

@@ -188,7 +188,8 @@ fn put_file(spec: &Spec, out: &mut Vec<u8>) -> Result<(), AllocError>
 /// of their numbers, numbers that are 0 left out. Where memory runs out, `out` is as before.
 pub fn write_spec(spec: &Spec, out: &mut Vec<u8>) -> Result<(), Memory>
     requires { IsComposite (composite spec.now) }
-    ensures bytes { OnOk result (out.new.items ≡ out.old.items ++ file_bytes (composite spec.now)) }
+    ensures bytes { OnOk result
+        (out.new.items ≡ out.old.items ++ file_bytes (composite spec.now)) }
     // They are spelled so, and so have at most 1 MiB.
     ensures spelled { IsFile (file_bytes (composite spec.now)) (composite spec.now) }
     // They are read as this description.

@@ -154,7 +154,8 @@ pub fn read_gpt(alloc: Global, head: &[u8], tail: &[u8], sectors: u64) -> Result
     ensures only { (t : Table) → IsGpt head.now tail.now sectors t → (result ≡ Ok t)
         ⊎ (result ≡ Err faults.Memory) }
     // The answer is that of the rules in their order, unless memory runs out.
-    ensures exact { (result ≡ gpt_of head.now tail.now sectors) ⊎ (result ≡ Err faults.Memory) }
+    ensures exact { (result ≡ gpt_of head.now tail.now sectors)
+        ⊎ (result ≡ Err faults.Memory) }
 {
     if sectors < 80 || SECTORS < sectors {
         return Err(GptFault::Size { sectors });

@@ -44,7 +44,8 @@ fn entry_for(first: u64, part: &Part) -> Entry
 fn put_parts(out: &mut Vec<u8>, parts: &[Part]) -> Result<(), Memory>
     requires each { All HasSectors parts.now }
     requires few { taken parts.now ≤ 2 ^ 39 }
-    ensures text { OnOk result (out.new.items ≡ out.old.items ++ array_text (placed 40 parts.now)) }
+    ensures text { OnOk result
+        (out.new.items ≡ out.old.items ++ array_text (placed 40 parts.now)) }
     ensures fit { OnOk result (AllByRecursion IsEntry (placed 40 parts.now)) }
 {
     let mut first = 40;

@@ -1,8 +1,7 @@
 -- Statuses: their numbers, and the line of the log that a run ends with.
 use Rattle.std.specs.Prelude.{ℕ, List, [], ◌++◌, string_bytes, codes}
 use Rattle.std.specs.Fmt.{decimal}
-use Rattle.text_lines.specs.declared.kinds.PlanKind.{PlanKind}
-use Rattle.text_lines.specs.declared.kinds.PlanKind.TheVariants as kind
+use Rattle.text_lines.specs.Ends.{fault_words, file_end}
 use Rattle.guest_boot.specs.Wording.{boot_end}
 use Rattle.guest_rules.specs.Run.{space, line_feed}
 use Rattle.guest_cli.specs.declared.status.Form.{Form}
@@ -25,22 +24,6 @@ status_number TooMuch = 9
 status_number Memory = 10
 status_number (Unbuilt form at) = 12
 
-abbrev pub kind_word : PlanKind → List ℕ
-kind_word kind.Header = codes "header"
-kind_word kind.End = codes "end"
-kind_word kind.Lines = codes "lines"
-kind_word kind.Word = codes "word"
-kind_word kind.Fields = codes "fields"
-kind_word kind.Number = codes "number"
-kind_word kind.Hex = codes "hex"
-kind_word kind.Name = codes "name"
-kind_word kind.Uuid = codes "uuid"
-kind_word kind.Range = codes "range"
-kind_word kind.Twice = codes "twice"
-kind_word kind.Missing = codes "missing"
-kind_word kind.Length = codes "length"
-kind_word kind.Spec = codes "spec"
-
 abbrev pub form_word : Form → List ℕ
 form_word Command = codes "command"
 form_word Plan = codes "plan"
@@ -49,19 +32,15 @@ form_word Frame = codes "frame"
 -- the end line without its line feed, of a status whose line has no name
 abbrev pub end_words : Status → List ℕ
 end_words Usage = codes "end 1 usage"
-end_words (PlanFault line k) = codes "end 2 plan " ++ decimal line ++ space ++ kind_word k
+end_words (PlanFault line k) = codes "end 2 plan " ++ fault_words line k
 end_words (TapeFault at) = codes "end 4 tape " ++ decimal at
-end_words (StoreFault line k) = codes "end 4 store " ++ decimal line ++ space ++ kind_word k
+end_words (StoreFault line k) = codes "end 4 store " ++ fault_words line k
 end_words ReadFault = codes "end 5 read"
 end_words (BadFrame at) = codes "end 7 frame " ++ decimal at
 end_words TooMuch = codes "end 9 much"
 end_words Memory = codes "end 10 memory"
 end_words (Unbuilt form at) = codes "end 12 unbuilt " ++ form_word form ++ space ++ decimal at
 end_words other = []
-
--- the end line that names a file
-abbrev pub file_end : List ℕ → List ℕ
-file_end name = codes "end 3 file " ++ name ++ line_feed
 
 -- the end line: none after 0 and 6
 abbrev pub end_line : Status → List ℕ

@@ -1,85 +1,9 @@
 // The lines of the log.
-ghost use Rattle.std.specs.Prelude.{◌≡◌, ◌≤◌, ◌+◌, ◌++◌, ℕ, List, [], length, Some};
-ghost use Rattle.std.specs.Fmt.{decimal};
-ghost use Rattle.hex.specs.Hex.{encode_lower};
+ghost use Rattle.std.specs.Prelude.{◌≡◌, ◌≤◌, ◌++◌, length, Some};
 ghost use Rattle.guest_rules.specs.Run.{cause_words, log_line};
 
-use itoa::Buffer;
-use mg_base::Digest;
-use std::marker::Model;
+use text_lines::Line;
 use verity_path::Cause;
-
-/// A line in the making, at most 384 bytes, in room that is not taken from memory.
-#[derive(Drop)]
-pub struct Line {
-    bytes: [u8; 384],
-    len: usize,
-}
-
-impl Model for Line {
-    ghost use Rattle.std.specs.Prelude.{ℕ, List, take, ◌≤◌};
-
-    ghost Value = { List ℕ };
-
-    ghost view = { λ l. take l.len l.bytes };
-
-    ghost invariant = { λ l. l.len ≤ 384 };
-}
-
-impl Line {
-    /// An empty one.
-    pub fn new() -> Line
-        ensures { result ≡ [] }
-    {
-        Line {
-            bytes: [0; 384],
-            len: 0,
-        }
-    }
-
-    /// Adds bytes.
-    pub fn put(&mut self, bytes: &[u8])
-        requires { length self.old + length bytes.now ≤ 384 }
-        ensures value { self.new ≡ self.old ++ bytes.now }
-        ensures len { length self.new ≡ length self.old + length bytes.now }
-    {
-        let end = self.len + bytes.len();
-        self.bytes[self.len..end].copy_from_slice(bytes);
-        self.len = end;
-    }
-
-    /// Adds a decimal number.
-    pub fn number(&mut self, n: u64)
-        requires { length self.old + 20 ≤ 384 }
-        ensures value { self.new ≡ self.old ++ decimal n }
-        ensures len { length self.new ≤ length self.old + 20 }
-    {
-        let mut buffer = Buffer::new();
-        let text = buffer.format(n);
-        self.put(text.as_bytes());
-    }
-
-    /// Adds the 64 hexadecimal digits of a digest.
-    pub fn digest(&mut self, digest: &Digest)
-        requires { length self.old + 64 ≤ 384 }
-        ensures value { self.new ≡ self.old ++ encode_lower digest.now.0 }
-        ensures len { length self.new ≡ length self.old + 64 }
-    {
-        let mut digits = [0; 64];
-        match hex::encode_to_slice(&digest.0, &mut digits) {
-            Ok(()) => {}
-            Err(_) => unreachable!(),
-        }
-        self.put(&digits);
-    }
-
-    /// The bytes of the line.
-    pub fn bytes(&self) -> &[u8]
-        ensures { result.now ≡ self.now }
-    {
-        &self.bytes[..self.len]
-    }
-}
 
 // Adds the words of a cause.
 fn put_cause(line: &mut Line, cause: &Cause)

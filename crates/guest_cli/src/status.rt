@@ -2,12 +2,11 @@
 ghost use Rattle.std.specs.Prelude.{◌≡◌, ◌≤◌, ◌+◌, ◌++◌, ℕ, List, [], length, OnOk, OnErr};
 ghost use Rattle.std.specs.Io.KnownBytes.{Appends};
 ghost use Rattle.host_traits.specs.Streams.{SomePrefix, HasCause};
-ghost use Rattle.guest_cli.specs.Statuses.{status_number, kind_word, form_word, end_words, file_end, end_line};
+ghost use Rattle.guest_cli.specs.Statuses.{status_number, form_word, end_words, end_line};
 
-use crate::log::Line;
 use guest_boot::{BootFault, write_boot_end};
-use guest_plan::PlanKind;
 use host_traits::{Failed, Sink};
+use text_lines::{Line, PlanKind, write_file_end};
 
 /// What isn't served yet.
 #[derive(Clone, Copy, Debug, PartialEq, Eq, Drop)]
@@ -73,29 +72,6 @@ impl Status {
     }
 }
 
-// A kind's name in lower case.
-fn kind_word(kind: PlanKind) -> &'static [u8]
-    ensures word { result.now ≡ kind_word kind }
-    ensures len { length result.now ≤ 7 }
-{
-    match kind {
-        PlanKind::Header => b"header",
-        PlanKind::End => b"end",
-        PlanKind::Lines => b"lines",
-        PlanKind::Word => b"word",
-        PlanKind::Fields => b"fields",
-        PlanKind::Number => b"number",
-        PlanKind::Hex => b"hex",
-        PlanKind::Name => b"name",
-        PlanKind::Uuid => b"uuid",
-        PlanKind::Range => b"range",
-        PlanKind::Twice => b"twice",
-        PlanKind::Missing => b"missing",
-        PlanKind::Length => b"length",
-        PlanKind::Spec => b"spec",
-    }
-}
-
 fn form_word(form: Form) -> &'static [u8]
     ensures word { result.now ≡ form_word form }
     ensures len { length result.now ≤ 7 }
@@ -117,9 +93,7 @@ fn end_words(status: &Status) -> Line
         Status::Usage => line.put(b"end 1 usage"),
         Status::PlanFault { line: number, kind } => {
             line.put(b"end 2 plan ");
-            line.number(*number);
-            line.put(b" ");
-            line.put(kind_word(*kind));
+            line.fault(*number, *kind);
         }
         Status::TapeFault { at } => {
             line.put(b"end 4 tape ");
@@ -127,9 +101,7 @@ fn end_words(status: &Status) -> Line
         }
         Status::StoreFault { line: number, kind } => {
             line.put(b"end 4 store ");
-            line.number(*number);
-            line.put(b" ");
-            line.put(kind_word(*kind));
+            line.fault(*number, *kind);
         }
         Status::ReadFault => line.put(b"end 5 read"),
         Status::BadFrame { at } => {
@@ -147,23 +119,6 @@ fn end_words(status: &Status) -> Line
         _ => {}
     }
     line
-}
-
-// Writes a file's end line.
-fn write_file_end<L: Sink>(name: &str, log: &mut L) -> Result<(), Failed>
-    ensures ok { OnOk result (Appends (L.holds log.old) (L.holds log.new) (file_end name.now)) }
-    ensures err { OnErr result (SomePrefix (L.holds log.old) (L.holds log.new) (file_end name.now)) }
-    ensures cause { HasCause (L.faults log.old) (L.faults log.new) result }
-{
-    match log.write_all(b"end 3 file ") {
-        Ok(()) => {}
-        Err(failed) => return Err(failed),
-    }
-    match log.write_all(name.as_bytes()) {
-        Ok(()) => {}
-        Err(failed) => return Err(failed),
-    }
-    log.write_all(b"\n")
 }
 
 /// Writes the end line of a status. A finished run and a fault of the output have none, and then the log isn't asked. After

@@ -1,5 +1,5 @@
 mod Loading
-mod Cuts
+pub mod Cuts
 mod Refusals
 mod Stocks
 mod Stores

@@ -1,16 +1,13 @@
 -- Lines of a store list that are carried out one after another.
 use Rattle.std.proofs.Common.{◌≡◌, ℕ, suc, ◌+◌, ◌<◌, List, [], ◌∷◌, ◌++◌, length, refl, ap, sym, subst, ◌∙◌, append_assoc, append-nil, Bool, true, false, ◌||◌, if◌then◌else◌, nat_eq, ◌==◌, Option, Some, None, Result, Ok, Err, arith}
 use Rattle.std.specs.List.{list_any}
-use Rattle.std.proofs.lemmas.List.Folds.{list_any-append}
 use Rattle.host_traits.specs.Folders.{Files}
 use Rattle.host_traits.specs.Held.{Held}
-use Rattle.text_lines.specs.declared.kinds.PlanKind.{PlanKind}
-use Rattle.text_lines.specs.Fields.{◌>>=◌}
-use Rattle.text_lines.specs.Spelling.{collect}
+use Rattle.text_lines.proofs.Lists.{Apart, apart_at, collected}
 use Rattle.guest_plan.specs.declared.store.StoreLine.{StoreLine}
 use Rattle.guest_plan.specs.declared.store.StoreLine.TheVariants as stored
 use Rattle.guest_plan.specs.Plans.{same_file}
-use Rattle.guest_plan.specs.Stores.{IsStore, add_store, store_clash, disk_in, node_in}
+use Rattle.guest_plan.specs.Stores.{IsStore, store_clash, disk_in, node_in}
 use Rattle.guest_files.specs.Files.{IsLoaded, AreLoaded}
 use Rattle.guest_files.specs.Stocking.{Stock, Adds, Stocked, IsFree, unstocked}
 
@@ -24,40 +21,6 @@ loaded_then files (n ∷ ns) name a b c contents bytes d l =
 pub stocked_then : (files : Option Files) (front : List StoreLine) (line : StoreLine) (a b c : Stock) → Stocked files front a b → Adds files line b c → Stocked files (front ++ line ∷ []) a c
 stocked_then files [] line a b c d l = (c, subst (λ (z : Stock). Adds files line z c) d l, refl)
 stocked_then files (x ∷ front) line a b c d l = (d.0, d.1, stocked_then files front line d.0 b c d.2 l)
-
--- ---- numbers stand once
-
--- no line adds a number that one of these, or one before it, adds
-abbrev Apart : List StoreLine → List StoreLine → Type 0
-Apart k [] = Unit {0}
-Apart k (line ∷ lines) = (list_any (store_clash line) k ≡ false) × Apart (k ++ line ∷ []) lines
-
-bound : {K : Type 0} (r : Result K PlanKind) (f : K → Result K PlanKind) (later : K) → (r >>= f) ≡ Ok later → (mid : K) × (r ≡ Ok mid) × (f mid ≡ Ok later)
-bound (Ok mid) f later e = (mid, refl, e)
-bound (Err fault) f later e = absurd cc
-
-chosen : {K : Type 0} (b : Bool) (fault : PlanKind) (x later : K) → (if b then Err fault else Ok x) ≡ Ok later → (b ≡ false) × (later ≡ x)
-chosen true fault x later e = absurd cc
-chosen false fault x later e = (refl, cc)
-
-added : (k mid : List StoreLine) (n : ℕ) (line : StoreLine) → add_store k n line ≡ Ok mid → (list_any (store_clash line) k ≡ false) × (mid ≡ k ++ line ∷ [])
-unfolding add_store
-added k mid n line e = chosen _ _ _ _ e
-
-collected : (lines : List StoreLine) (n : ℕ) (k later : List StoreLine) → collect add_store n k lines ≡ Ok later → (later ≡ k ++ lines) × Apart k lines
-unfolding collect
-collected [] n k later e = let same : k ≡ later = cc in (sym same ∙ sym (append-nil k), tt)
-collected (line ∷ lines) n k later e =
-    let b = bound (add_store k n line) _ later e in
-    let one = added k b.0 n line b.1 in
-    let more = collected lines (n + 1) b.0 later b.2 in (
-      more.0 ∙ ap (λ (z : List StoreLine). z ++ lines) one.1 ∙ append_assoc k (line ∷ []) lines,
-      (one.0, subst (λ (z : List StoreLine). Apart z lines) one.1 more.1),
-    )
-
-apart_at : (k front : List StoreLine) (line : StoreLine) (rest : List StoreLine) → Apart k (front ++ line ∷ rest) → list_any (store_clash line) (k ++ front) ≡ false
-apart_at k [] line rest a = subst (λ (z : List StoreLine). list_any (store_clash line) z ≡ false) (sym (append-nil k)) a.0
-apart_at k (x ∷ front) line rest a = subst (λ (z : List StoreLine). list_any (store_clash line) z ≡ false) (append_assoc k (x ∷ []) front) (apart_at (k ++ x ∷ []) front line rest a.1)
 
 other : (n m : ℕ) → (n == m) ≡ false → nat_eq m n ≡ false
 other n m e = grind arith
@@ -123,5 +86,5 @@ free_by files (stored.KeepFile n file) front loaded b clear d = tt
 pub free_next : (files : Option Files) (text : List ℕ) (lines front : List StoreLine) (line : StoreLine) (rest : List StoreLine) (loaded : ℕ) (b : Stock) → IsStore text lines → lines ≡ front ++ line ∷ rest
     → Stocked files front (unstocked loaded) b → IsFree line b.held
 free_next files text lines front line rest loaded b list cut d =
-    let all = collected list.items.items 2 [] lines list.items.says in
-    free_by files line front loaded b (apart_at [] front line rest (subst (λ (z : List StoreLine). Apart [] z) (sym all.0 ∙ cut) all.1)) d
+    let all = collected store_clash list.items.items 2 [] lines list.items.says in
+    free_by files line front loaded b (apart_at store_clash [] front line rest (subst (λ (z : List StoreLine). Apart store_clash [] z) (sym all.0 ∙ cut) all.1)) d

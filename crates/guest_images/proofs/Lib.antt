@@ -1,4 +1,3 @@
-pub mod Prefixes
 pub mod Trees
 pub mod Listed
 pub mod Cuts

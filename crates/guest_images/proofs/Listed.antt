@@ -11,14 +11,16 @@ use Rattle.text_lines.specs.declared.kinds.PlanKind.TheVariants as kinds
 use Rattle.text_lines.specs.declared.kinds.PlanFault.{PlanFault}
 use Rattle.text_lines.specs.Fields.{◌>>=◌, first_field, four_fields}
 use Rattle.text_lines.specs.Values.{folder_name_of, is_name, is_folder_name, name_of}
-use Rattle.text_lines.specs.Spelling.{◌then◌, collect}
+use Rattle.text_lines.specs.Lists.{TellsList, add_apart}
+use Rattle.text_lines.specs.Spelling.{◌then◌}
+use Rattle.text_lines.proofs.Lists.{collected}
 use Rattle.text_lines.proofs.Numbers.{bind_ok, chosen, text_is, name_takes, name_again, folder_name_takes, folder_name_again}
-use Rattle.text_lines.proofs.Fielded.{Free, four_take, first_again, four_again, OneLine}
-use Rattle.text_lines.proofs.Printed.{printed, printed_free, name_bytes_printed}
+use Rattle.text_lines.proofs.Fielded.{four_take, first_again, four_again, OneLine}
+use Rattle.text_lines.proofs.Printed.{free, name_bytes_printed, one, printed, then_one}
 use Rattle.text_lines.proofs.Spelled.{name_printed, folder_name_printed}
 use Rattle.text_lines.proofs.Whole.{IsRead, text_takes, text_again}
 use Rattle.guest_images.specs.declared.parts.PartLine.{PartLine}
-use Rattle.guest_images.specs.Parts.{IsPartLine, IsParts, TellsParts, mode_text, part_text, part_name_of, mode_of, made_line, part_fields_of, part_line_of, same_name, add_part, parts_header, parts_of}
+use Rattle.guest_images.specs.Parts.{IsPartLine, IsParts, mode_text, part_text, part_name_of, mode_of, made_line, part_fields_of, part_line_of, same_name, parts_header, parts_of}
 
 abbrev Is : List ℕ → PartLine → Type 0
 Is line p = IsPartLine p × (line ≡ part_text p)
@@ -94,9 +96,6 @@ line_takes line p e =
       | inr r ↦ absurd (cc (r.1))
     ]
 
-free : (x : List ℕ) → printed x ≡ true → Free x
-free x h = printed_free 32 x (omega arith) h
-
 mode_printed : (write : Bool) → printed (mode_text write) ≡ true
 mode_printed false = refl
 mode_printed true = refl
@@ -119,12 +118,6 @@ line_again p h =
       folder_name_again p.file h.file,
     ) refl
 
-then_one : (a b : List ℕ) → OneLine a → OneLine b → OneLine (a then b)
-then_one a b ha hb = rw (list_all-append (λ x. not (eqb x 10)) a (32 ∷ b), ha) hb
-
-one : (x : List ℕ) → printed x ≡ true → OneLine x
-one x h = printed_free 10 x (omega arith) h
-
 line_one : (p : PartLine) → IsPartLine p → OneLine (part_text p)
 line_one p h =
     let m : List ℕ = mode_text p.write in
@@ -140,40 +133,20 @@ abbrev Lines : Type 0
 Lines = List PartLine
 
 parts_take : (bytes : List ℕ) (k : Lines) → parts_of bytes ≡ Ok k → IsParts bytes k
-parts_take bytes k e = text_takes parts_header part_line_of add_part IsPartLine part_text lines_read [] bytes k e
+parts_take bytes k e = text_takes parts_header part_line_of (add_apart same_name) IsPartLine part_text lines_read [] bytes k e
 
 pub parts_again : (bytes : List ℕ) (k : Lines) → IsParts bytes k → parts_of bytes ≡ Ok k
-parts_again bytes k h = text_again parts_header part_line_of add_part IsPartLine part_text lines_read refl [] bytes k h
+parts_again bytes k h = text_again parts_header part_line_of (add_apart same_name) IsPartLine part_text lines_read refl [] bytes k h
 
-pub parts_found : (bytes : List ℕ) (r : Result (Vec PartLine Global) PlanFault) → TellsParts r (parts_of bytes) → IfOk r (λ v. IsParts bytes v.items)
+pub parts_found : (bytes : List ℕ) (r : Result (Vec PartLine Global) PlanFault) → TellsList r (parts_of bytes) → IfOk r (λ v. IsParts bytes v.items)
 parts_found bytes (Ok v) told = parts_take bytes v.items told
 parts_found bytes (Err f) told = tt
 
 -- ---- the lines are those that were collected
 
-bound : {K : Type 0} (r : Result K PlanKind) (f : K → Result K PlanKind) (later : K) → (r >>= f) ≡ Ok later → (mid : K) × (r ≡ Ok mid) × (f mid ≡ Ok later)
-bound (Ok mid) f later e = (mid, refl, e)
-bound (Err fault) f later e = absurd cc
-
-added : (k mid : Lines) (n : ℕ) (line : PartLine) → add_part k n line ≡ Ok mid → mid ≡ k ++ line ∷ []
-unfolding add_part
-added k mid n line e =
-    let ok : Result Lines PlanKind = Ok mid in
-    elim (chosen (list_any (same_name line) k) (Err kinds.Twice) (Ok (k ++ line ∷ [])) ok e) [
-      | inl h ↦ absurd (cc (h.1))
-      | inr h ↦ sym (ok_is (k ++ line ∷ []) mid h.1)
-    ]
-
-collected : (lines : Lines) (n : ℕ) (k later : Lines) → collect add_part n k lines ≡ Ok later → later ≡ k ++ lines
-unfolding collect
-collected [] n k later e = sym (ok_is k later e) ∙ sym (append-nil k)
-collected (line ∷ lines) n k later e =
-    let b = bound (add_part k n line) _ later e in
-    collected lines (n + 1) b.0 later b.2 ∙ ap (λ (z : Lines). z ++ lines) (added k b.0 n line b.1) ∙ append_assoc k (line ∷ []) lines
-
 each_of : (bytes : List ℕ) (k : Lines) → IsParts bytes k → AllByRecursion IsPartLine k
-each_of bytes k h = subst (AllByRecursion IsPartLine) (sym (collected h.items 2 [] k h.says)) h.each
+each_of bytes k h = subst (AllByRecursion IsPartLine) (sym ((collected same_name h.items 2 [] k h.says).0)) h.each
 
-pub parts_each : (bytes : List ℕ) (r : Result (Vec PartLine Global) PlanFault) → TellsParts r (parts_of bytes) → IfOk r (λ v. AllByRecursion IsPartLine v.items)
+pub parts_each : (bytes : List ℕ) (r : Result (Vec PartLine Global) PlanFault) → TellsList r (parts_of bytes) → IfOk r (λ v. AllByRecursion IsPartLine v.items)
 parts_each bytes (Ok v) told = each_of bytes v.items (parts_take bytes v.items told)
 parts_each bytes (Err f) told = tt

@@ -5,7 +5,7 @@ use Rattle.std.specs.List.{AllByRecursion}
 use Rattle.std.specs.declared.vec.Vec.{Vec}
 use Rattle.std.specs.declared.alloc.Global.{Global}
 use Rattle.host_traits.specs.Folders.{Files}
-use Rattle.guest_images.proofs.Cuts.{cut_here}
+use Rattle.guest_files.proofs.Cuts.{cut_here}
 use Rattle.guest_images.specs.declared.parts.PartLine.{PartLine}
 use Rattle.guest_images.specs.declared.pieces.Piece.{Piece}
 use Rattle.guest_images.specs.declared.status.Status.{Status}

@@ -16,7 +16,7 @@ use Rattle.guest_files.specs.Keeping.{IsStored, MayBeStored}
 use Rattle.guest_images.specs.declared.status.UnfitKind.TheVariants.{TooFewBlocks}
 use Rattle.guest_images.specs.declared.status.Status.{Status}
 use Rattle.guest_images.specs.declared.status.Status.TheVariants.{Done, FileFault, WriteFault, TooMuch, Memory, Unfit}
-use Rattle.guest_images.specs.Statuses.{space, line_feed}
+use Rattle.text_lines.specs.Ends.{space, line_feed}
 
 -- the files of the folder before the run and after it, and the folder's last call that failed
 pub record FolderRun : Type 0 where
@@ -28,6 +28,12 @@ pub record FolderRun : Type 0 where
 pub record LogRun : Type 0 where
   pub old : Option (List ℕ)
   pub new : Option (List ℕ)
+
+abbrev pub folder_run : Option Files → Option Files → Option Errand → FolderRun
+folder_run old new last = record { old = old; new = new; last = last }
+
+abbrev pub log_run : Option (List ℕ) → Option (List ℕ) → LogRun
+log_run old new = record { old = old; new = new }
 
 -- no file changed
 abbrev pub IsUnchanged : FolderRun → Type 0

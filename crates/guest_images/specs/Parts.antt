@@ -1,15 +1,11 @@
 -- Lists of parts: the grammar of a list, and what a text of it says, or the first bad line with the first thing wrong with it.
-use Rattle.std.specs.Prelude.{◌≡◌, ◌<◌, ℕ, List, [], ◌∷◌, ◌++◌, Bool, true, false, length, nat_lt, Result, Ok, Err, if◌then◌else◌, codes}
+use Rattle.std.specs.Prelude.{◌≡◌, ◌<◌, ℕ, List, [], Bool, true, false, length, nat_lt, Result, Ok, Err, if◌then◌else◌, codes}
 use Rattle.std.specs.Str.{bytes_eq}
-use Rattle.std.specs.List.{list_any}
-use Rattle.std.specs.declared.vec.Vec.{Vec}
-use Rattle.std.specs.declared.alloc.Global.{Global}
 use Rattle.text_lines.specs.declared.kinds.PlanKind.{PlanKind}
 use Rattle.text_lines.specs.declared.kinds.PlanKind.TheVariants as kinds
-use Rattle.text_lines.specs.declared.kinds.PlanFault.{PlanFault}
 use Rattle.text_lines.specs.Fields.{◌>>=◌, first_field, four_fields}
 use Rattle.text_lines.specs.Values.{is_name, is_folder_name, name_of, folder_name_of}
-use Rattle.text_lines.specs.Lines.{adds, text_of, Refuses}
+use Rattle.text_lines.specs.Lists.{add_apart, list_of}
 use Rattle.text_lines.specs.Spelling.{◌then◌, IsText}
 use Rattle.guest_images.specs.declared.parts.PartLine.{PartLine}
 
@@ -52,25 +48,17 @@ part_line_of line = if bytes_eq (first_field line) (codes "part") then part_fiel
 
 -- ---- lines together
 
+-- two lines that may not stand in one list: each name stands once
 abbrev pub same_name : PartLine → PartLine → Bool
 same_name a b = bytes_eq a.name b.name
-
--- one line more: each name stands once
-unfoldable pub add_part : List PartLine → ℕ → PartLine → Result (List PartLine) PlanKind
-add_part parts n p = if list_any (same_name p) parts then Err kinds.Twice else Ok (parts ++ p ∷ [])
 
 abbrev pub parts_header : List ℕ
 parts_header = codes "parts 1"
 
 -- what a text says, or the first bad line with the first thing wrong with it
 abbrev pub parts_of : List ℕ → Result (List PartLine) (ℕ × PlanKind)
-parts_of bytes = text_of parts_header (adds part_line_of add_part) [] bytes
+parts_of bytes = list_of parts_header part_line_of same_name bytes
 
 -- the text is a list of parts, and has these lines
 abbrev pub IsParts : List ℕ → List PartLine → Type 0
-IsParts text parts = IsText parts_header IsPartLine part_text add_part [] text parts
-
--- what reading a list returned, unless memory ran out
-abbrev pub TellsParts : Result (Vec PartLine Global) PlanFault → Result (List PartLine) (ℕ × PlanKind) → Type 0
-TellsParts (Ok parts) read = read ≡ Ok parts.items
-TellsParts (Err fault) read = Refuses fault read
+IsParts text parts = IsText parts_header IsPartLine part_text (add_apart same_name) [] text parts

@@ -1,18 +1,11 @@
 -- Statuses: their numbers, and the line of the log that a run ends with.
-use Rattle.std.specs.Prelude.{ℕ, List, [], ◌∷◌, ◌++◌, string_bytes, codes}
+use Rattle.std.specs.Prelude.{ℕ, List, [], ◌++◌, string_bytes, codes}
 use Rattle.std.specs.Fmt.{decimal}
-use Rattle.text_lines.specs.declared.kinds.PlanKind.{PlanKind}
-use Rattle.text_lines.specs.declared.kinds.PlanKind.TheVariants as kind
+use Rattle.text_lines.specs.Ends.{fault_words, file_end, line_feed}
 use Rattle.guest_images.specs.declared.status.UnfitKind.{UnfitKind}
 use Rattle.guest_images.specs.declared.status.UnfitKind.TheVariants.{TooFewBlocks, Empty, Uneven, TooMany, NoParts}
 use Rattle.guest_images.specs.declared.status.Status.{Status}
 use Rattle.guest_images.specs.declared.status.Status.TheVariants.{Done, Usage, ListFault, FileFault, WriteFault, TooMuch, Memory, Unfit, Unbuilt}
-
-abbrev pub space : List ℕ
-space = 32 ∷ []
-
-abbrev pub line_feed : List ℕ
-line_feed = 10 ∷ []
 
 abbrev pub status_number : Status → ℕ
 status_number Done = 0
@@ -25,22 +18,6 @@ status_number Memory = 10
 status_number (Unfit k) = 11
 status_number (Unbuilt at) = 12
 
-abbrev pub kind_word : PlanKind → List ℕ
-kind_word kind.Header = codes "header"
-kind_word kind.End = codes "end"
-kind_word kind.Lines = codes "lines"
-kind_word kind.Word = codes "word"
-kind_word kind.Fields = codes "fields"
-kind_word kind.Number = codes "number"
-kind_word kind.Hex = codes "hex"
-kind_word kind.Name = codes "name"
-kind_word kind.Uuid = codes "uuid"
-kind_word kind.Range = codes "range"
-kind_word kind.Twice = codes "twice"
-kind_word kind.Missing = codes "missing"
-kind_word kind.Length = codes "length"
-kind_word kind.Spec = codes "spec"
-
 abbrev pub unfit_word : UnfitKind → List ℕ
 unfit_word TooFewBlocks = codes "toofewblocks"
 unfit_word Empty = codes "empty"
@@ -51,16 +28,12 @@ unfit_word NoParts = codes "noparts"
 -- the end line without its line feed, of a status whose line has no name
 abbrev pub end_words : Status → List ℕ
 end_words Usage = codes "end 1 usage"
-end_words (ListFault line k) = codes "end 2 list " ++ decimal line ++ space ++ kind_word k
+end_words (ListFault line k) = codes "end 2 list " ++ fault_words line k
 end_words TooMuch = codes "end 9 much"
 end_words Memory = codes "end 10 memory"
 end_words (Unfit k) = codes "end 11 unfit " ++ unfit_word k
 end_words (Unbuilt at) = codes "end 12 unbuilt command " ++ decimal at
 end_words other = []
-
--- the end line that names a file
-abbrev pub file_end : List ℕ → List ℕ
-file_end name = codes "end 3 file " ++ name ++ line_feed
 
 -- the end line: none after 0 and 6
 abbrev pub end_line : Status → List ℕ

@@ -201,7 +201,8 @@ pub(crate) fn compose(alloc: Global, out: &str, pieces: &[Piece]) -> Result<Disk
     requires out { length out.now ≤ 250 }
     requires each { AllByRecursion IsPiece pieces.now }
     requires fit { unfit_kind pieces.now ≡ None }
-    ensures text { IfOk result (λ d. d.text.items ≡ file_bytes (composite_of out.now pieces.now)) }
+    ensures text { IfOk result
+        (λ d. d.text.items ≡ file_bytes (composite_of out.now pieces.now)) }
     ensures head { IfOk result
         (λ d. d.head.items ≡ head_bytes (disk_of out.now) (parts_of out.now pieces.now)) }
     ensures head_name { IfOk result (λ d. string_bytes d.head_name ≡ head_name out.now) }

@@ -3,7 +3,6 @@
 
 pub mod composing;
 pub mod feeding;
-pub mod lines;
 pub mod loading;
 pub mod making;
 pub mod measuring;

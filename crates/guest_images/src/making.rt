@@ -3,6 +3,7 @@ ghost use Rattle.std.specs.Prelude.{◌≡◌, ◌≤◌, ◌∷◌, ℕ, List, 
 ghost use Rattle.std.specs.declared.option.Option.{Option};
 ghost use Rattle.guest_images.specs.Composed.{Composes, StoringOutcome};
 ghost use Rattle.guest_images.specs.Loads.{FileCause, StoresCause};
+ghost use Rattle.guest_images.specs.Measuring.{folder_run, log_run};
 
 use crate::composing::{Disk, compose};
 use crate::loading::refused;
@@ -40,12 +41,8 @@ pub(crate) fn make_disk<F: Folder>(alloc: Global, list: &str, out: &str, folder:
     requires { length out.now ≤ 250 }
     ensures composes { (log : Option (List ℕ))
         → Composes
-        (record {
-          old = F.files folder.old;
-          new = F.files folder.new;
-          last = F.last_failed folder.new;
-        })
-        (record { old = log; new = log }) list.now out.now result }
+        (folder_run (F.files folder.old) (F.files folder.new) (F.last_failed folder.new))
+        (log_run log log) list.now out.now result }
     ensures file { FileCause (F.faults folder.old) (F.faults folder.new)
         (F.last_failed folder.new) result }
     ensures never { result ≡ Status.WriteFault → ⊥ }

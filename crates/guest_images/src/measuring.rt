@@ -5,10 +5,9 @@ ghost use Rattle.sha_tree.specs.Tree.{block_count, root};
 ghost use Rattle.guest_images.specs.Feeding.{IsTree};
 ghost use Rattle.guest_images.specs.Loads.{FileCause};
 ghost use Rattle.std.specs.declared.option.Option.{Option};
-ghost use Rattle.guest_images.specs.Measuring.{IsIdsigFor, Measures, Signs, idsig_for, measure_lines, measured_lines};
+ghost use Rattle.guest_images.specs.Measuring.{IsIdsigFor, Measures, Signs, folder_run, idsig_for, log_run, measure_lines, measured_lines};
 
 use crate::feeding::tree_of;
-use crate::lines::Line;
 use crate::loading::store;
 use crate::status::{Status, UnfitKind};
 use host_traits::{Folder, Sink};
@@ -16,6 +15,7 @@ use idsig_v4::write_idsig;
 use mg_base::{Digest, Memory, Salt};
 use sha_tree::Tree;
 use std::alloc::Global;
+use text_lines::Line;
 use verity_descriptor::{Descriptor, file_digest};
 
 // How many blocks so many bytes have.
@@ -67,12 +67,8 @@ pub(crate) fn measure_file<F: Folder, L: Sink>(
     log: &mut L,
 ) -> Status
     ensures measures { Measures
-        (record {
-          old = F.files folder.old;
-          new = F.files folder.new;
-          last = F.last_failed folder.new;
-        })
-        (record { old = L.holds log.old; new = L.holds log.new }) file.now salt result }
+        (folder_run (F.files folder.old) (F.files folder.new) (F.last_failed folder.new))
+        (log_run (L.holds log.old) (L.holds log.new)) file.now salt result }
     ensures file { FileCause (F.faults folder.old) (F.faults folder.new)
         (F.last_failed folder.new) result }
     ensures write { result ≡ Status.WriteFault → Rose (L.faults log.old) (L.faults log.new) }
@@ -115,9 +111,8 @@ pub(crate) fn sign_file<F: Folder>(
     folder: &mut F,
 ) -> Status
     ensures signs { (log : Option (List ℕ))
-        → Signs (record
-        { old = F.files folder.old; new = F.files folder.new; last = F.last_failed folder.new })
-        (record { old = log; new = log }) file.now salt out.now result }
+        → Signs (folder_run (F.files folder.old) (F.files folder.new) (F.last_failed folder.new))
+        (log_run log log) file.now salt out.now result }
     ensures file { FileCause (F.faults folder.old) (F.faults folder.new)
         (F.last_failed folder.new) result }
     ensures never { result ≡ Status.WriteFault → ⊥ }

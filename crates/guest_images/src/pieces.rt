@@ -9,11 +9,10 @@ ghost use Rattle.guest_images.specs.Parts.{IsPartLine};
 use crate::loading::load;
 use crate::parts::{PartLine, read_parts};
 use crate::status::{Status, UnfitKind};
-use guest_plan::PlanFault;
 use host_traits::Folder;
 use mg_base::Memory;
 use std::alloc::Global;
-use text_lines::Name;
+use text_lines::{Name, PlanFault};
 
 /// A part of a composite disk.
 #[derive(Drop)]

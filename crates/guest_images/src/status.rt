@@ -2,11 +2,10 @@
 ghost use Rattle.std.specs.Prelude.{◌≡◌, ◌≤◌, ◌+◌, ◌++◌, ℕ, List, [], length, OnOk, OnErr};
 ghost use Rattle.std.specs.Io.KnownBytes.{Appends};
 ghost use Rattle.host_traits.specs.Streams.{SomePrefix, HasCause};
-ghost use Rattle.guest_images.specs.Statuses.{status_number, kind_word, unfit_word, end_words, file_end, end_line};
+ghost use Rattle.guest_images.specs.Statuses.{status_number, unfit_word, end_words, end_line};
 
-use crate::lines::Line;
-use guest_plan::PlanKind;
 use host_traits::{Failed, Sink};
+use text_lines::{Line, PlanKind, write_file_end};
 
 /// Why nothing can be made of files that were loaded.
 #[derive(Clone, Copy, Debug, PartialEq, Eq, Drop)]
@@ -65,29 +64,6 @@ impl Status {
     }
 }
 
-// A kind's name in lower case.
-fn kind_word(kind: PlanKind) -> &'static [u8]
-    ensures word { result.now ≡ kind_word kind }
-    ensures len { length result.now ≤ 7 }
-{
-    match kind {
-        PlanKind::Header => b"header",
-        PlanKind::End => b"end",
-        PlanKind::Lines => b"lines",
-        PlanKind::Word => b"word",
-        PlanKind::Fields => b"fields",
-        PlanKind::Number => b"number",
-        PlanKind::Hex => b"hex",
-        PlanKind::Name => b"name",
-        PlanKind::Uuid => b"uuid",
-        PlanKind::Range => b"range",
-        PlanKind::Twice => b"twice",
-        PlanKind::Missing => b"missing",
-        PlanKind::Length => b"length",
-        PlanKind::Spec => b"spec",
-    }
-}
-
 fn unfit_word(kind: UnfitKind) -> &'static [u8]
     ensures word { result.now ≡ unfit_word kind }
     ensures len { length result.now ≤ 12 }
@@ -111,9 +87,7 @@ fn end_words(status: &Status) -> Line
         Status::Usage => line.put(b"end 1 usage"),
         Status::ListFault { line: number, kind } => {
             line.put(b"end 2 list ");
-            line.number(*number);
-            line.put(b" ");
-            line.put(kind_word(*kind));
+            line.fault(*number, *kind);
         }
         Status::TooMuch => line.put(b"end 9 much"),
         Status::Memory => line.put(b"end 10 memory"),
@@ -128,24 +102,6 @@ fn end_words(status: &Status) -> Line
         _ => {}
     }
     line
-}
-
-// Writes a file's end line.
-fn write_file_end<L: Sink>(name: &str, log: &mut L) -> Result<(), Failed>
-    ensures ok { OnOk result (Appends (L.holds log.old) (L.holds log.new) (file_end name.now)) }
-    ensures err { OnErr result
-        (SomePrefix (L.holds log.old) (L.holds log.new) (file_end name.now)) }
-    ensures cause { HasCause (L.faults log.old) (L.faults log.new) result }
-{
-    match log.write_all(b"end 3 file ") {
-        Ok(()) => {}
-        Err(failed) => return Err(failed),
-    }
-    match log.write_all(name.as_bytes()) {
-        Ok(()) => {}
-        Err(failed) => return Err(failed),
-    }
-    log.write_all(b"\n")
 }
 
 /// Writes the end line of a status. A finished run and a fault of the log have none, and then the log isn't asked. After

@@ -3,6 +3,7 @@ ghost use Rattle.std.specs.Prelude.{◌≡◌, ◌≤◌, ℕ, List, map, string
 ghost use Rattle.host_traits.specs.Told.{Rose};
 ghost use Rattle.guest_images.specs.Loads.{FileCause};
 ghost use Rattle.guest_images.specs.Made.{Makes, Mkguest};
+ghost use Rattle.guest_images.specs.Measuring.{folder_run, log_run};
 ghost use Rattle.guest_images.specs.Words.{wish_of};
 
 use crate::making::make_disk;
@@ -15,12 +16,8 @@ use std::alloc::Global;
 // What the words ask for, before the end line.
 fn make<F: Folder, L: Sink>(alloc: Global, words: &[String], folder: &mut F, log: &mut L) -> Status
     ensures makes { Makes (wish_of (map string_bytes words.now))
-        (record {
-          old = F.files folder.old;
-          new = F.files folder.new;
-          last = F.last_failed folder.new;
-        })
-        (record { old = L.holds log.old; new = L.holds log.new }) result }
+        (folder_run (F.files folder.old) (F.files folder.new) (F.last_failed folder.new))
+        (log_run (L.holds log.old) (L.holds log.new)) result }
     ensures file { FileCause (F.faults folder.old) (F.faults folder.new)
         (F.last_failed folder.new) result }
     ensures write { result ≡ Status.WriteFault → Rose (L.faults log.old) (L.faults log.new) }
@@ -50,12 +47,8 @@ pub fn mkguest<F: Folder, L: Sink>(
     log: &mut L,
 ) -> Status
     ensures made { Mkguest (wish_of (map string_bytes words.now))
-        (record {
-          old = F.files folder.old;
-          new = F.files folder.new;
-          last = F.last_failed folder.new;
-        })
-        (record { old = L.holds log.old; new = L.holds log.new }) result }
+        (folder_run (F.files folder.old) (F.files folder.new) (F.last_failed folder.new))
+        (log_run (L.holds log.old) (L.holds log.new)) result }
     ensures file { FileCause (F.faults folder.old) (F.faults folder.new)
         (F.last_failed folder.new) result }
     ensures write { result ≡ Status.WriteFault → Rose (L.faults log.old) (L.faults log.new) }

@@ -10,11 +10,12 @@ use Rattle.text_lines.specs.declared.kinds.PlanKind.TheVariants as kinds
 use Rattle.text_lines.specs.declared.kinds.PlanFault.{PlanFault}
 use Rattle.text_lines.specs.Fields.{◌>>=◌, first_field, two_fields, three_fields, four_fields}
 use Rattle.text_lines.specs.Values.{page_salt, folder_name_of, is_folder_name}
-use Rattle.text_lines.specs.Lines.{adds, text_of}
+use Rattle.text_lines.specs.Lists.{add_apart, complete_by, completed, list_of}
+use Rattle.text_lines.proofs.Lists.{completed_ok}
 use Rattle.text_lines.specs.Spelling.{◌then◌, salt_text, IsSalt, IsText}
 use Rattle.text_lines.proofs.Numbers.{bind_ok, chosen, text_is, number_takes, number_again, salt_takes, salt_again, folder_name_takes, folder_name_again}
 use Rattle.text_lines.proofs.Fielded.{Free, two_take, three_take, four_take, first_again, two_again, three_again, four_again, OneLine}
-use Rattle.text_lines.proofs.Printed.{printed, printed_free, salt_printed, decimal_printed, name_bytes_printed}
+use Rattle.text_lines.proofs.Printed.{free, one, printed, then_one, salt_printed, decimal_printed, name_bytes_printed}
 use Rattle.text_lines.proofs.Spelled.{folder_name_printed}
 use Rattle.text_lines.proofs.Whole.{IsRead, text_takes, text_again}
 use Rattle.guest_plan.specs.Items.{host_number}
@@ -22,7 +23,7 @@ use Rattle.guest_plan.specs.declared.store.StoreLine.{StoreLine}
 use Rattle.guest_plan.specs.declared.store.StoreLine.TheVariants as stored
 use Rattle.guest_plan.specs.declared.store.Store.{Store}
 use Rattle.guest_plan.specs.StoreItems.{disk_of, composite_of, verity_of, empty_of, dir_of, keep_disk_of, keep_file_of, keep_by, keep_of, store_line_of}
-use Rattle.guest_plan.specs.Stores.{IsStoreLine, store_text, add_store, store_missing, store_complete_by, store_completed, store_header, store_of, IsStore, TellsStore}
+use Rattle.guest_plan.specs.Stores.{IsStoreLine, store_text, store_clash, store_missing, store_header, store_of, IsStore, TellsStore}
 
 ok_is : {A : Type 0} (x y : A) → let r : Result A PlanKind = Ok x in r ≡ Ok y → x ≡ y
 ok_is x y e = cc
@@ -184,9 +185,6 @@ line_takes line l e =
 
 -- ---- what is spelled so is read
 
-free : (x : List ℕ) → printed x ≡ true → Free x
-free x h = printed_free 32 x (omega arith) h
-
 name_free : (x : List ℕ) → is_folder_name x ≡ true → printed x ≡ true
 name_free x h = name_bytes_printed x (folder_name_printed x h)
 
@@ -245,12 +243,6 @@ line_again (stored.Dir n) h = dir_again n h
 line_again (stored.KeepDisk n file) h = keep_disk_again n file h
 line_again (stored.KeepFile n file) h = keep_file_again n file h
 
-then_one : (a b : List ℕ) → OneLine a → OneLine b → OneLine (a then b)
-then_one a b ha hb = rw (list_all-append (λ x. not (eqb x 10)) a (32 ∷ b), ha) hb
-
-one : (x : List ℕ) → printed x ≡ true → OneLine x
-one x h = printed_free 10 x (omega arith) h
-
 named_one : (n : ℕ) (file : List ℕ) → n < 2147483648 → is_folder_name file ≡ true → OneLine (decimal n then file)
 named_one n file h k = let d : List ℕ = decimal n in then_one d file (one d (number_free n h)) (one file (name_free file k))
 
@@ -273,28 +265,14 @@ lines_read = record { takes = line_takes; again = line_again; one = line_one }
 abbrev Lines : Type 0
 Lines = List StoreLine
 
-abbrev Total : Type 0
-Total = Result Lines (ℕ × PlanKind)
-
-whole_is : (x y : Lines) → let r : Total = Ok x in r ≡ Ok y → x ≡ y
-whole_is x y e = cc
-
-complete_ok : (j : Lines) (o : Option ℕ) (k : Lines) → store_complete_by j o ≡ Ok k → (o ≡ None) × (j ≡ k)
-complete_ok j None k e = (refl, whole_is j k e)
-complete_ok j (Some n) k e = absurd cc
-
-completed_ok : (r : Total) (k : Lines) → store_completed r ≡ Ok k → (r ≡ Ok k) × (store_missing k ≡ None)
-completed_ok (Ok j) k e = let c = complete_ok j (store_missing j) k e in (ap (λ (x : Lines). let t : Total = Ok x in t) c.1, ap store_missing (sym c.1) ∙ c.0)
-completed_ok (Err fault) k e = absurd cc
-
 store_takes : (bytes : List ℕ) (k : Lines) → store_of bytes ≡ Ok k → IsStore bytes k
 store_takes bytes k e =
-    let c = completed_ok (text_of store_header (adds store_line_of add_store) [] bytes) k e in
-    record { items = text_takes store_header store_line_of add_store IsStoreLine store_text lines_read [] bytes k c.0; complete = c.1 }
+    let c = completed_ok store_missing (list_of store_header store_line_of store_clash bytes) k e in
+    record { items = text_takes store_header store_line_of (add_apart store_clash) IsStoreLine store_text lines_read [] bytes k c.0; complete = c.1 }
 
 pub store_again : (bytes : List ℕ) (k : Lines) → IsStore bytes k → store_of bytes ≡ Ok k
 store_again bytes k h =
-    ap store_completed (text_again store_header store_line_of add_store IsStoreLine store_text lines_read refl [] bytes k h.items) ∙ ap (store_complete_by k) h.complete
+    ap (completed store_missing) (text_again store_header store_line_of (add_apart store_clash) IsStoreLine store_text lines_read refl [] bytes k h.items) ∙ ap (complete_by k) h.complete
 
 pub store_found : (bytes : List ℕ) (r : Result Store PlanFault) → TellsStore r (store_of bytes) → IfOk r (λ s. IsStore bytes s.lines.items)
 store_found bytes (Ok s) told = store_takes bytes s.lines.items told

@@ -15,10 +15,12 @@ use Rattle.text_lines.specs.declared.kinds.PlanFault.{PlanFault}
 use Rattle.text_lines.specs.Fields.{◌>>=◌, cut, first_field, first_or, field, last_field, last_from, two_fields, three_fields, four_fields, five_fields}
 use Rattle.text_lines.specs.Values.{number_in, hex_of, page_salt, name_of, part_of, is_name, is_part}
 use Rattle.text_lines.specs.Lines.{adds, text_of}
+use Rattle.text_lines.specs.Lists.{complete_by, completed}
+use Rattle.text_lines.proofs.Lists.{completed_ok}
 use Rattle.text_lines.specs.Spelling.{◌then◌, salt_text, IsHexed, IsText}
 use Rattle.text_lines.proofs.Numbers.{bind_ok, chosen, text_is, number_takes, number_again, hex_takes, hex_again, salt_takes, salt_again, name_takes, name_again, part_takes, part_again}
 use Rattle.text_lines.proofs.Fielded.{Free, field_takes, last_takes, field_again, two_take, three_take, four_take, five_take, first_again, two_again, three_again, four_again, five_again, OneLine}
-use Rattle.text_lines.proofs.Printed.{printed, printed_free, hex_printed, salt_printed, decimal_printed, name_bytes_printed}
+use Rattle.text_lines.proofs.Printed.{free, hex_printed, one, printed, then_one, salt_printed, decimal_printed, name_bytes_printed}
 use Rattle.text_lines.proofs.Spelled.{name_printed, part_printed}
 use Rattle.text_lines.proofs.Whole.{IsRead, text_takes, text_again}
 use Rattle.guest_plan.specs.declared.plan.How.{How}
@@ -28,7 +30,7 @@ use Rattle.guest_plan.specs.declared.plan.Item.{Item}
 use Rattle.guest_plan.specs.declared.plan.Item.TheVariants.{Secret, InstanceSalt, Line}
 use Rattle.guest_plan.specs.declared.plan.Plan.{Plan}
 use Rattle.guest_plan.specs.Items.{host_number, uuid_of, measure_of, secret_of, instance_salt_of, instance_of, blob_of, file_of, write_of, writedir_of, apk_fields, places_of, apk_fixed_of, apk_first_of, apk_kept_of, apk_by, apk_of, item_of}
-use Rattle.guest_plan.specs.Plans.{Known, nothing, add, missing, complete_by, completed, plan_header, plan_of, known, Tells}
+use Rattle.guest_plan.specs.Plans.{Known, nothing, add, missing, plan_header, plan_of, known, Tells}
 use Rattle.guest_plan.specs.Spelling.{IsDevice, IsMeasuredBy, IsHostNumber, IsServed, IsItem, measure_text, how_text, served_text, item_text, IsPlan}
 use Rattle.guest_plan.proofs.Uuids.{uuid_takes, uuid_again, guid_printed}
 
@@ -353,9 +355,6 @@ item_takes line item e =
 
 -- ---- what is spelled so is read
 
-free : (x : List ℕ) → printed x ≡ true → Free x
-free x h = printed_free 32 x (omega arith) h
-
 name_free : (x : List ℕ) → is_name x ≡ true → printed x ≡ true
 name_free x h = name_bytes_printed x (name_printed x h)
 
@@ -475,12 +474,6 @@ item_again (Line (served.WriteDir name file)) h = writedir_again name file h
 
 -- ---- no line feed
 
-then_one : (a b : List ℕ) → OneLine a → OneLine b → OneLine (a then b)
-then_one a b ha hb = rw (list_all-append (λ x. not (eqb x 10)) a (32 ∷ b), ha) hb
-
-one : (x : List ℕ) → printed x ≡ true → OneLine x
-one x h = printed_free 10 x (omega arith) h
-
 measure_one : (m : Measure) → IsDevice m → OneLine (measure_text m)
 measure_one m h =
     let n : List ℕ = decimal m.blocks in let s : List ℕ = salt_text m.salt in let t : List ℕ = encode_lower m.root.0 in
@@ -518,28 +511,14 @@ items_read = record { takes = item_takes; again = item_again; one = item_one }
 
 -- ---- the whole text
 
-abbrev Total : Type 0
-Total = Result Known (ℕ × PlanKind)
-
-whole_is : (x y : Known) → let r : Total = Ok x in r ≡ Ok y → x ≡ y
-whole_is x y e = cc
-
-complete_ok : (j : Known) (o : Option ℕ) (k : Known) → complete_by j o ≡ Ok k → (o ≡ None) × (j ≡ k)
-complete_ok j None k e = (refl, whole_is j k e)
-complete_ok j (Some n) k e = absurd cc
-
-completed_ok : (r : Total) (k : Known) → completed r ≡ Ok k → (r ≡ Ok k) × (missing k ≡ None)
-completed_ok (Ok j) k e = let c = complete_ok j (missing j) k e in (ap (λ (x : Known). let t : Total = Ok x in t) c.1, ap missing (sym c.1) ∙ c.0)
-completed_ok (Err fault) k e = absurd cc
-
 pub plan_takes : (bytes : List ℕ) (k : Known) → plan_of bytes ≡ Ok k → IsPlan bytes k
 plan_takes bytes k e =
-    let c = completed_ok (text_of plan_header (adds item_of add) nothing bytes) k e in
+    let c = completed_ok missing (text_of plan_header (adds item_of add) nothing bytes) k e in
     record { items = text_takes plan_header item_of add IsItem item_text items_read nothing bytes k c.0; complete = c.1 }
 
 pub plan_again : (bytes : List ℕ) (k : Known) → IsPlan bytes k → plan_of bytes ≡ Ok k
 plan_again bytes k h =
-    ap completed (text_again plan_header item_of add IsItem item_text items_read refl nothing bytes k h.items) ∙ ap (complete_by k) h.complete
+    ap (completed missing) (text_again plan_header item_of add IsItem item_text items_read refl nothing bytes k h.items) ∙ ap (complete_by k) h.complete
 
 pub found_is : (bytes : List ℕ) (r : Result Plan PlanFault) → Tells r (plan_of bytes) → IfOk r (λ p. IsPlan bytes (known p))
 found_is bytes (Ok p) told = plan_takes bytes (known p) told

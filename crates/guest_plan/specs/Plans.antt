@@ -7,6 +7,7 @@ use Rattle.text_lines.specs.declared.kinds.PlanKind.TheVariants as kinds
 use Rattle.text_lines.specs.declared.kinds.PlanFault.{PlanFault}
 use Rattle.text_lines.specs.Fields.{◌>>=◌}
 use Rattle.text_lines.specs.Lines.{adds, text_of, Refuses}
+use Rattle.text_lines.specs.Lists.{completed}
 use Rattle.guest_plan.specs.declared.plan.How.{How}
 use Rattle.guest_plan.specs.declared.plan.How.TheVariants.{Fixed, First, Kept}
 use Rattle.guest_plan.specs.declared.plan.PlanLine.{PlanLine}
@@ -96,14 +97,6 @@ first_lacking keyed held (l ∷ lines) (n ∷ numbers) = if lacks keyed held l t
 abbrev pub missing : Known → Option ℕ
 missing k = first_lacking (has_keys k) (has_instance k) k.lines k.numbers
 
-abbrev pub complete_by : Known → Option ℕ → Result Known (ℕ × PlanKind)
-complete_by k None = Ok k
-complete_by k (Some n) = Err (n, kinds.Missing)
-
-abbrev pub completed : Result Known (ℕ × PlanKind) → Result Known (ℕ × PlanKind)
-completed (Ok k) = complete_by k (missing k)
-completed (Err fault) = Err fault
-
 -- ---- the whole text
 
 abbrev pub plan_header : List ℕ
@@ -111,7 +104,7 @@ plan_header = codes "plan 1"
 
 -- what a text says, or the first bad line with the first thing wrong with it
 abbrev pub plan_of : List ℕ → Result Known (ℕ × PlanKind)
-plan_of bytes = completed (text_of plan_header (adds item_of add) nothing bytes)
+plan_of bytes = completed missing (text_of plan_header (adds item_of add) nothing bytes)
 
 -- what `read_plan` returned, unless memory ran out
 abbrev pub Tells : Result Plan PlanFault → Result Known (ℕ × PlanKind) → Type 0

@@ -6,7 +6,8 @@ use Rattle.text_lines.specs.declared.kinds.PlanKind.{PlanKind}
 use Rattle.text_lines.specs.declared.kinds.PlanKind.TheVariants as kinds
 use Rattle.text_lines.specs.declared.kinds.PlanFault.{PlanFault}
 use Rattle.text_lines.specs.Values.{is_folder_name}
-use Rattle.text_lines.specs.Lines.{adds, text_of, Refuses}
+use Rattle.text_lines.specs.Lines.{Refuses}
+use Rattle.text_lines.specs.Lists.{add_apart, completed, list_of}
 use Rattle.text_lines.specs.Spelling.{IsSalt, ◌then◌, salt_text, IsText}
 use Rattle.guest_plan.specs.declared.store.StoreLine.{StoreLine}
 use Rattle.guest_plan.specs.declared.store.StoreLine.TheVariants as stored
@@ -59,10 +60,6 @@ stored_in line = None
 abbrev pub store_clash : StoreLine → StoreLine → Bool
 store_clash a b = same_file (disk_in a) (disk_in b) || same_file (node_in a) (node_in b)
 
--- one line more
-unfoldable pub add_store : List StoreLine → ℕ → StoreLine → Result (List StoreLine) PlanKind
-add_store lines n l = if list_any (store_clash l) lines then Err kinds.Twice else Ok (lines ++ l ∷ [])
-
 -- ---- what a line needs
 
 -- the number of a disk, and of a file, that is kept
@@ -95,14 +92,6 @@ first_lacking_in all (l ∷ lines) n = if store_lacks all l then Some n else fir
 abbrev pub store_missing : List StoreLine → Option ℕ
 store_missing lines = first_lacking_in lines lines 2
 
-abbrev pub store_complete_by : List StoreLine → Option ℕ → Result (List StoreLine) (ℕ × PlanKind)
-store_complete_by lines None = Ok lines
-store_complete_by lines (Some n) = Err (n, kinds.Missing)
-
-abbrev pub store_completed : Result (List StoreLine) (ℕ × PlanKind) → Result (List StoreLine) (ℕ × PlanKind)
-store_completed (Ok lines) = store_complete_by lines (store_missing lines)
-store_completed (Err fault) = Err fault
-
 -- ---- the whole text
 
 abbrev pub store_header : List ℕ
@@ -110,11 +99,11 @@ store_header = codes "store 1"
 
 -- what a text says, or the first bad line with the first thing wrong with it
 abbrev pub store_of : List ℕ → Result (List StoreLine) (ℕ × PlanKind)
-store_of bytes = store_completed (text_of store_header (adds store_line_of add_store) [] bytes)
+store_of bytes = completed store_missing (list_of store_header store_line_of store_clash bytes)
 
 -- the text is a store list's, and has these lines
 pub record IsStore (text : List ℕ) (lines : List StoreLine) : Type 0 where
-  pub items : IsText store_header IsStoreLine store_text add_store [] text lines
+  pub items : IsText store_header IsStoreLine store_text (add_apart store_clash) [] text lines
   pub complete : store_missing lines ≡ None
 
 -- what `read_store` returned, unless memory ran out

@@ -77,10 +77,7 @@ fn read(alloc: Global, bytes: &[u8]) -> Result<Plan, PlanFault>
     ensures { Tells result (plan_of bytes.now) }
 {
     let mut reader = PlanReader::new(alloc);
-    match read_lines(alloc, b"plan 1", bytes, &mut reader) {
-        Ok(()) => {}
-        Err(fault) => return Err(fault),
-    }
+    read_lines(alloc, b"plan 1", bytes, &mut reader)?;
     match reader.missing() {
         Some(line) => Err(PlanFault::At {
             line,

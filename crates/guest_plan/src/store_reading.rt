@@ -1,18 +1,15 @@
 // A store list, read from its text.
-ghost use Rattle.std.specs.Prelude.{◌≡◌, ◌+◌, ◌<◌, ◌^◌, length, List, [], MatchResult, IfOk, Ok};
+ghost use Rattle.std.specs.Prelude.{◌≡◌, ◌+◌, ◌<◌, ◌^◌, length, List, IfOk, Ok};
 ghost use Rattle.std.specs.List.{list_any};
-ghost use Rattle.text_lines.specs.Fields.{Fails};
-ghost use Rattle.text_lines.specs.Lines.{adds};
 ghost use Rattle.guest_plan.specs.declared.store.StoreLine.{StoreLine};
 ghost use Rattle.guest_plan.specs.Plans.{same_file};
 ghost use Rattle.guest_plan.specs.StoreItems.{store_line_of};
-ghost use Rattle.guest_plan.specs.Stores.{disk_in, node_in, stored_in, kept_disk, kept_file, store_clash, serves_keep, is_keep, store_lacks, first_lacking_in, store_missing, add_store, store_of, IsStore, TellsStore};
+ghost use Rattle.guest_plan.specs.Stores.{disk_in, node_in, stored_in, kept_disk, kept_file, store_clash, serves_keep, is_keep, store_lacks, first_lacking_in, store_missing, store_of, IsStore, TellsStore};
 
 use crate::store::{Store, StoreLine};
 use crate::store_items::store_line_of;
 use std::alloc::Global;
-use std::marker::Model;
-use text_lines::{LineFault, LineReader, PlanFault, PlanKind, read_lines};
+use text_lines::{LineFault, ListLine, PlanFault, PlanKind, read_list};
 
 fn disk_in(line: &StoreLine) -> Option<u32>
     ensures { result ≡ disk_in line.now }
@@ -128,17 +125,6 @@ fn serves_keep(keep: &StoreLine, line: &StoreLine) -> bool
     is_same(kept_file(keep), stored_in(line))
 }
 
-fn is_stored(line: &StoreLine, lines: &[StoreLine]) -> bool
-    ensures { result ≡ list_any (store_clash line.now) lines.now }
-{
-    for other in lines {
-        if store_clash(line, other) {
-            return true;
-        }
-    }
-    false
-}
-
 fn is_served(keep: &StoreLine, lines: &[StoreLine]) -> bool
     ensures { result ≡ list_any (serves_keep keep.now) lines.now }
 {
@@ -173,92 +159,30 @@ fn store_missing(lines: &[StoreLine]) -> Option<u64>
     None
 }
 
-/// Adds a line.
-#[tactic(auto, unfolding(crate::specs::Stores::add_store))]
-fn add_store(lines: &mut Vec<StoreLine>, number: u64, line: StoreLine) -> Result<(), LineFault>
-    ensures { MatchResult result (λ _. add_store lines.old.items number line ≡ Ok lines.new.items)
-        (λ e. Fails e (add_store lines.old.items number line)) }
-{
-    if is_stored(&line, lines) {
-        return Err(LineFault::Kind(PlanKind::Twice));
-    }
-    lines.push(line)?;
-    Ok(())
-}
+impl ListLine for StoreLine {
+    ghost item_of = { store_line_of };
 
-fn take_store_line(
-    alloc: Global,
-    lines: &mut Vec<StoreLine>,
-    number: u64,
-    line: &[u8],
-) -> Result<(), LineFault>
-    ensures { MatchResult result
-        (λ _. adds store_line_of add_store lines.old.items number line.now ≡ Ok lines.new.items)
-        (λ e. Fails e (adds store_line_of add_store lines.old.items number line.now)) }
-{
-    let item = store_line_of(alloc, line)?;
-    add_store(lines, number, item)
-}
+    ghost clash = { store_clash };
 
-// The lines so far.
-#[derive(Drop)]
-struct StoreReader {
-    lines: Vec<StoreLine>,
-}
-
-impl Model for StoreReader {
-    ghost use Rattle.std.specs.Prelude.{List};
-    ghost use Rattle.guest_plan.specs.declared.store.StoreLine.{StoreLine};
-
-    ghost Value = { List StoreLine };
-
-    ghost view = { λ r. r.lines.items };
-}
-
-impl StoreReader {
-    fn new(alloc: Global) -> StoreReader
-        ensures { result ≡ [] }
-    {
-        StoreReader {
-            lines: Vec::new(alloc),
-        }
+    fn read(alloc: Global, line: &[u8]) -> Result<StoreLine, LineFault> {
+        store_line_of(alloc, line)
     }
 
-    fn missing(&self) -> Option<u64>
-        ensures { result ≡ store_missing self.now }
-    {
-        store_missing(&self.lines)
-    }
-
-    fn into_store(self) -> Store
-        ensures { result.lines.items ≡ self }
-    {
-        Store { lines: self.lines }
-    }
-}
-
-impl LineReader for StoreReader {
-    ghost step = { adds store_line_of add_store };
-
-    fn take(&mut self, alloc: Global, number: u64, line: &[u8]) -> Result<(), LineFault> {
-        take_store_line(alloc, &mut self.lines, number, line)
+    fn clashes(&self, other: &StoreLine) -> bool {
+        store_clash(self, other)
     }
 }
 
 fn read(alloc: Global, bytes: &[u8]) -> Result<Store, PlanFault>
     ensures { TellsStore result (store_of bytes.now) }
 {
-    let mut reader = StoreReader::new(alloc);
-    match read_lines(alloc, b"store 1", bytes, &mut reader) {
-        Ok(()) => {}
-        Err(fault) => return Err(fault),
-    }
-    match reader.missing() {
+    let lines = read_list(alloc, b"store 1", bytes)?;
+    match store_missing(&lines) {
         Some(line) => Err(PlanFault::At {
             line,
             kind: PlanKind::Missing,
         }),
-        None => Ok(reader.into_store()),
+        None => Ok(Store { lines }),
     }
 }
 

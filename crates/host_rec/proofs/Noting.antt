@@ -1,43 +1,17 @@
 -- One record more in the text.
-use Rattle.std.proofs.Common.{◌≡◌, ◌<◌, ◌≤◌, ℕ, suc, ◌+◌, ◌-◌, ◌^◌, min, List, [], ◌∷◌, ◌++◌, length, take, drop, get_or, refl, ap, ◌∙◌, arith}
-use Rattle.std.specs.Prelude.{All}
+use Rattle.std.proofs.Common.{◌≡◌, ◌<◌, ◌≤◌, ℕ, ◌+◌, ◌-◌, ◌^◌, min, List, [], ◌∷◌, ◌++◌, length, drop, ap, sym, subst, ◌∙◌, arith}
 use Rattle.std.specs.List.{AllByRecursion}
-use Rattle.std.proofs.lemmas.List.{length-append, length-drop, map_push, flat_map_more, take-append-le, drop-append-le}
-use Rattle.std.proofs.lemmas.List.Elements.{All-push}
+use Rattle.std.proofs.lemmas.List.{length-append, flat_map_more}
 use Rattle.host_traits.specs.declared.calls.Call.{Call}
 use Rattle.host_traits.specs.declared.calls.TapeItem.{TapeItem}
 use Rattle.host_traits.specs.declared.calls.TapeItem.TheVariants.{Failed, Done, Number, Bytes}
 use Rattle.host_traits.specs.Told.{heard_size}
-use Rattle.host_tape.specs.declared.places.Place.{Place}
-use Rattle.host_tape.specs.declared.places.Place.TheVariants as places
 use Rattle.host_tape.specs.Tape.{IsItem, header, item_bytes}
-use Rattle.host_tape.specs.Reading.{item_in, end_in, IsInside}
+use Rattle.host_tape.specs.Reading.{items_in}
+use Rattle.host_tape.proofs.Grammar.{spelled_items}
 use Rattle.host_rec.specs.Recorded.{exchange, failure}
-use Rattle.host_rec.specs.Noted.{IsNoted, IsText, items_at, spare_behind}
+use Rattle.host_rec.specs.Noted.{IsNoted, IsText, items_of, spare_behind}
 use Rattle.host_rec.proofs.Recording.{failures-push, size-push}
-
--- what lies in a text lies in a longer one
-item_on : (text more : List ℕ) (p : Place) → end_in p ≤ length text → item_in (text ++ more) p ≡ item_in text p
-item_on text more places.Failed end = refl
-item_on text more places.Done end = refl
-item_on text more (places.Number n) end = refl
-item_on text more (places.Bytes from len) end =
-    let behind = drop-append-le from text more (omega (arith, end)) in
-    let front = take-append-le len (drop from text) more (omega (arith, end, length-drop from text)) in
-    ap (λ (x : List ℕ). Bytes x) (ap (take len) behind ∙ front)
-
-items_on : (text more : List ℕ) (ps : List Place) → All (IsInside (length text)) ps → items_at (text ++ more) ps ≡ items_at text ps
-items_on text more [] inside = refl
-items_on text more (p ∷ ps) inside =
-    let here : IsInside (length text) p = inside 0 p (omega arith) in
-    let others = items_on text more ps (λ i d lt. inside (suc i) d (omega (arith, lt))) in
-    ap (λ (x : TapeItem). x ∷ items_at (text ++ more) ps) (item_on text more p here.end) ∙ ap (λ (x : List TapeItem). item_in text p ∷ x) others
-
-inside_on : (len more : ℕ) (p : Place) → len ≤ more → IsInside len p → IsInside more p
-inside_on len more p le h = record { end = omega (arith, h.end); few = h.few }
-
-all_inside_on : (len more : ℕ) (ps : List Place) → len ≤ more → All (IsInside len) ps → All (IsInside more) ps
-all_inside_on len more ps le inside = λ i d lt. inside_on len more (get_or ps i d) le (inside i d lt)
 
 each-push : (items : List TapeItem) (item : TapeItem) → AllByRecursion IsItem items → IsItem item → AllByRecursion IsItem (items ++ item ∷ [])
 each-push [] item each is = (is, tt)
@@ -47,25 +21,30 @@ text-push : (text : List ℕ) (items : List TapeItem) (item : TapeItem) → 0 < 
 text-push [] items item some is = absurd (omega (arith, some))
 text-push (b ∷ text) items item some is = ap (λ (x : List ℕ). x ++ item_bytes item) is ∙ flat_map_more item_bytes header items item
 
--- the records, where one is put behind them
-pub items-push : (text new : List ℕ) (ps : List Place) (p : Place) (item : TapeItem) → All (IsInside (length text)) ps → new ≡ text ++ item_bytes item → item_in new p ≡ item
-    → items_at new (ps ++ p ∷ []) ≡ items_at text ps ++ item ∷ []
-items-push text new ps p item inside longer says =
-    map_push (item_in new) ps p ∙ ap (λ (x : TapeItem). items_at new ps ++ x ∷ []) says
-    ∙ ap (λ (x : List ℕ). items_at x ps ++ item ∷ []) longer ∙ ap (λ (x : List TapeItem). x ++ item ∷ []) (items_on text (item_bytes item) ps inside)
+-- the records behind the header of their tape
+tape_items : (text : List ℕ) (items : List TapeItem) → 0 < length text → AllByRecursion IsItem items → IsText text items → items_in (length items) (drop 13 text) ≡ items
+tape_items [] items some each is = absurd (omega (arith, some))
+tape_items (b ∷ text) items some each is = ap (λ (x : List ℕ). items_in (length items) (drop 13 x)) is ∙ spelled_items items each
 
-pub one_more : (calls : List Call) (text new : List ℕ) (ps : List Place) (size faults n m size' faults' : ℕ) (call : Call) (p : Place) (item : TapeItem) → IsNoted calls text ps size faults → 0 < length text
-    → IsItem item → new ≡ text ++ item_bytes item → item_in new p ≡ item → IsInside (length new) p
+-- the records, where one is put behind them
+pub items-push : (calls : List Call) (text new : List ℕ) (size faults : ℕ) (call : Call) (item : TapeItem) → IsNoted calls text size faults → 0 < length text → IsItem item → new ≡ text ++ item_bytes item
+    → items_of new (calls ++ call ∷ []) ≡ items_of text calls ++ item ∷ []
+items-push calls text new size faults call item d some is longer =
+    let items : List TapeItem = items_of text calls in
+    let spelled : IsText new (items ++ item ∷ []) = subst (λ (x : List ℕ). IsText x (items ++ item ∷ [])) (sym longer) (text-push text items item some d.spelled) in
+    let long : 0 < length new = omega (arith, some, ap length longer, length-append text (item_bytes item)) in
+    let count : length (calls ++ call ∷ []) ≡ length (items ++ item ∷ []) = omega (arith, d.paired, length-append calls (call ∷ []), length-append items (item ∷ [])) in
+    ap (λ (n : ℕ). items_in n (drop 13 new)) count ∙ tape_items new (items ++ item ∷ []) long (each-push items item d.each is) spelled
+
+pub one_more : (calls : List Call) (text new : List ℕ) (size faults n m size' faults' : ℕ) (call : Call) (item : TapeItem) → IsNoted calls text size faults → 0 < length text
+    → IsItem item → new ≡ text ++ item_bytes item
     → n ≡ heard_size (exchange call item) → m ≡ failure item → size' ≡ min (size + n) (2 ^ 64 - 1) → faults' ≡ min (faults + m) (2 ^ 64 - 1)
-    → IsNoted (calls ++ call ∷ []) new (ps ++ p ∷ []) size' faults'
-one_more calls text new ps size faults n m size' faults' call p item d some is longer says inside heard failed sized counted =
-    let items : List TapeItem = items_at text ps in
-    let pushed : items_at new (ps ++ p ∷ []) ≡ items ++ item ∷ [] = items-push text new ps p item d.inside longer says in
-    let count : length new ≡ length text + length (item_bytes item) = ap length longer ∙ length-append text (item_bytes item) in
-    let others : All (IsInside (length new)) ps = all_inside_on (length text) (length new) ps (omega (arith, count)) d.inside in
+    → IsNoted (calls ++ call ∷ []) new size' faults'
+one_more calls text new size faults n m size' faults' call item d some is longer heard failed sized counted =
+    let items : List TapeItem = items_of text calls in
+    let pushed : items_of new (calls ++ call ∷ []) ≡ items ++ item ∷ [] = items-push calls text new size faults call item d some is longer in
     record {
       spelled = rw (pushed, longer) (text-push text items item some d.spelled);
-      inside = All-push (IsInside (length new)) ps p others inside;
       each = rw pushed (each-push items item d.each is);
       paired = rw pushed (omega (arith, d.paired, length-append calls (call ∷ []), length-append items (item ∷ [])));
       sized = rw pushed (omega (arith, sized, heard, d.sized, size-push calls items call item d.paired));

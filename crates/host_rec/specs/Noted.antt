@@ -1,12 +1,11 @@
--- How a recorder holds what it keeps: the text of the tape, and where the records lie in it.
-use Rattle.std.specs.Prelude.{◌≡◌, ℕ, ◌-◌, ◌^◌, min, List, [], ◌∷◌, length, map, All}
+-- How a recorder holds what it keeps: the calls, and the text of the tape of their records.
+use Rattle.std.specs.Prelude.{◌≡◌, ℕ, ◌-◌, ◌^◌, min, List, [], ◌∷◌, length, drop}
 use Rattle.std.specs.List.{AllByRecursion}
 use Rattle.host_traits.specs.declared.calls.Call.{Call}
 use Rattle.host_traits.specs.declared.calls.TapeItem.{TapeItem}
 use Rattle.host_traits.specs.Told.{heard_size}
-use Rattle.host_tape.specs.declared.places.Place.{Place}
 use Rattle.host_tape.specs.Tape.{IsItem, tape_bytes}
-use Rattle.host_tape.specs.Reading.{item_in, IsInside}
+use Rattle.host_tape.specs.Reading.{items_in}
 use Rattle.host_rec.specs.Recorded.{Kept, exchanges, failures}
 
 -- what is kept, for how many calls more there is room, and for how many bytes behind the text of their tape
@@ -15,9 +14,9 @@ pub record Noted : Type 0 where
   pub room : ℕ
   pub spare : ℕ
 
--- the records at these places
-abbrev pub items_at : List ℕ → List Place → List TapeItem
-items_at text places = map (item_in text) places
+-- the records behind the header, one for each call
+abbrev pub items_of : List ℕ → List Call → List TapeItem
+items_of text calls = items_in (length calls) (drop 13 text)
 
 -- the room behind a text that was begun
 abbrev pub spare_behind : List ℕ → ℕ → ℕ
@@ -29,11 +28,10 @@ abbrev pub IsText : List ℕ → List TapeItem → Type 0
 IsText [] items = items ≡ []
 IsText (b ∷ text) items = b ∷ text ≡ tape_bytes items
 
--- the text is the tape of the records at these places, one for each call, and the counts are right
-pub record IsNoted (calls : List Call) (text : List ℕ) (places : List Place) (size faults : ℕ) : Type 0 where
-  pub spelled : IsText text (items_at text places)
-  pub inside : All (IsInside (length text)) places
-  pub each : AllByRecursion IsItem (items_at text places)
-  pub paired : length calls ≡ length (items_at text places)
-  pub sized : size ≡ min (heard_size (exchanges calls (items_at text places))) (2 ^ 64 - 1)
-  pub counted : faults ≡ min (failures (items_at text places)) (2 ^ 64 - 1)
+-- the text is the tape of these records, one for each call, and the counts are right
+pub record IsNoted (calls : List Call) (text : List ℕ) (size faults : ℕ) : Type 0 where
+  pub spelled : IsText text (items_of text calls)
+  pub each : AllByRecursion IsItem (items_of text calls)
+  pub paired : length calls ≡ length (items_of text calls)
+  pub sized : size ≡ min (heard_size (exchanges calls (items_of text calls))) (2 ^ 64 - 1)
+  pub counted : faults ≡ min (failures (items_of text calls)) (2 ^ 64 - 1)

@@ -8,32 +8,31 @@ ghost use Rattle.host_tape.specs.Tape.{IsItem, IsTape, item_bytes};
 ghost use Rattle.host_rec.specs.Recorded.{Keeps, and, exchange, failure, failures, heard_by, nothing};
 
 use crate::text::{begin, make_room, put};
-use host_tape::{Next, Place};
+use host_tape::Next;
 use host_traits::{Call, HostError, Raw};
 use std::alloc::Global;
 use std::marker::Model;
 
-/// Each call, and the tape of their records: its text, and where each record lies in it. Beside them
-/// the number of the bytes heard, and how many of the calls failed. The first call begins the text.
+/// Each call, and the text of the tape of their records. Beside them the number of the bytes heard,
+/// and how many of the calls failed. The first call begins the text.
 #[derive(Drop)]
 pub(crate) struct Records {
     calls: Vec<Call>,
     text: Vec<u8>,
-    places: Vec<Place>,
     size: u64,
     faults: u64,
 }
 
 impl Model for Records {
-    ghost use Rattle.std.specs.Prelude.{◌-◌, min, length, vec_capacity};
+    ghost use Rattle.std.specs.Prelude.{◌-◌, length, vec_capacity};
     ghost use Rattle.host_rec.specs.Recorded.{kept_of};
-    ghost use Rattle.host_rec.specs.Noted.{Noted, IsNoted, items_at, spare_behind};
+    ghost use Rattle.host_rec.specs.Noted.{Noted, IsNoted, items_of, spare_behind};
 
     ghost Value = { Noted };
 
-    ghost view = { λ a. record { kept = kept_of a.calls.items (items_at a.text.items a.places.items); room = min (vec_capacity a.calls - length a.calls.items) (vec_capacity a.places - length a.places.items); spare = spare_behind a.text.items (vec_capacity a.text) } };
+    ghost view = { λ a. record { kept = kept_of a.calls.items (items_of a.text.items a.calls.items); room = vec_capacity a.calls - length a.calls.items; spare = spare_behind a.text.items (vec_capacity a.text) } };
 
-    ghost invariant = { λ a. IsNoted a.calls.items a.text.items a.places.items a.size a.faults };
+    ghost invariant = { λ a. IsNoted a.calls.items a.text.items a.size a.faults };
 }
 
 impl Records {
@@ -43,7 +42,6 @@ impl Records {
         Records {
             calls: Vec::new(alloc),
             text: Vec::new(alloc),
-            places: Vec::new(alloc),
             size: 0,
             faults: 0,
         }
@@ -85,9 +83,6 @@ impl Records {
         if self.calls.reserve(1).is_err() {
             return Err(HostError::Memory);
         }
-        if self.places.reserve(1).is_err() {
-            return Err(HostError::Memory);
-        }
         if begin(&mut self.text).is_err() {
             return Err(HostError::Memory);
         }
@@ -106,9 +101,8 @@ impl Records {
         requires faults { faults ≡ failure (item_by next) }
         ensures { self.new.kept ≡ and self.old.kept call (item_by next.entry) }
     {
-        let place = put(next, &mut self.text);
+        put(next, &mut self.text);
         self.calls.push_reserved(call);
-        self.places.push_reserved(place);
         self.size = self.size.saturating_add(size as u64);
         self.faults = self.faults.saturating_add(faults);
     }

@@ -2,10 +2,9 @@
 ghost use Rattle.std.specs.Prelude.{◌≡◌, ◌<◌, ◌≤◌, ◌+◌, ◌⊎◌, ℕ, List, [], ◌∷◌, ◌++◌, length, OnOk, vec_capacity};
 ghost use Rattle.host_traits.specs.declared.calls.TapeItem.TheVariants.{Bytes};
 ghost use Rattle.host_tape.specs.Next.{item_by};
-ghost use Rattle.host_tape.specs.Reading.{item_in, IsInside};
 ghost use Rattle.host_tape.specs.Tape.{IsItem, header, item_bytes};
 
-use host_tape::{Next, Place};
+use host_tape::Next;
 use std::alloc::AllocError;
 
 // Writes the header, where the text is empty.
@@ -31,29 +30,20 @@ pub(crate) fn make_room(text: &mut Vec<u8>, bytes: usize) -> Result<(), AllocErr
     }
 }
 
-// Adds a record to a text that has room for it, and says where it lies.
+// Adds a record to a text that has room for it.
 #[tactic(auto, unfolding(host_tape::specs::Tape::item_bytes))]
-pub(crate) fn put(next: Next<'_>, text: &mut Vec<u8>) -> Place
+pub(crate) fn put(next: Next<'_>, text: &mut Vec<u8>)
     requires room { length text.old.items + length (item_bytes (item_by next)) ≤ vec_capacity
         text.old }
     requires is { IsItem (item_by next) }
-    ensures text { text.new.items ≡ text.old.items ++ item_bytes (item_by next.entry) }
-    ensures says { item_in text.new.items result ≡ item_by next.entry }
-    ensures inside { IsInside (length text.new.items) result }
+    ensures { text.new.items ≡ text.old.items ++ item_bytes (item_by next.entry) }
 {
     match next {
-        Next::Failed => {
-            text.push_reserved(0);
-            Place::Failed
-        }
-        Next::Done => {
-            text.push_reserved(1);
-            Place::Done
-        }
+        Next::Failed => text.push_reserved(0),
+        Next::Done => text.push_reserved(1),
         Next::Number(number) => {
             text.push_reserved(2);
             let _ = text.extend_from_slice(&number.to_le_bytes());
-            Place::Number(number)
         }
         Next::Bytes(bytes) => put_bytes(bytes, text),
     }
@@ -61,19 +51,12 @@ pub(crate) fn put(next: Next<'_>, text: &mut Vec<u8>) -> Place
 
 // The same for a record of bytes.
 #[tactic(auto, unfolding(host_tape::specs::Tape::item_bytes))]
-fn put_bytes(bytes: &[u8], text: &mut Vec<u8>) -> Place
+fn put_bytes(bytes: &[u8], text: &mut Vec<u8>)
     requires room { length text.old.items + (5 + length bytes.now) ≤ vec_capacity text.old }
     requires most { length bytes.now ≤ 69632 }
-    ensures text { text.new.items ≡ text.old.items ++ item_bytes (Bytes bytes.now) }
-    ensures says { item_in text.new.items result ≡ Bytes bytes.now }
-    ensures inside { IsInside (length text.new.items) result }
+    ensures { text.new.items ≡ text.old.items ++ item_bytes (Bytes bytes.now) }
 {
     let size = (bytes.len() as u32).to_le_bytes();
     let _ = text.extend_from_slice(&[3, size[0], size[1], size[2], size[3]]);
-    let from = text.len();
     let _ = text.extend_from_slice(bytes);
-    Place::Bytes {
-        from,
-        len: bytes.len(),
-    }
 }

@@ -8,11 +8,12 @@ use Rattle.std.proofs.lemmas.List.{take-append-drop, length-take, length-drop, g
 use Rattle.std.proofs.lemmas.Nat.{le_bytes_4, le_bytes_8, from_le_bytes-to_le_bytes_4, from_le_bytes-to_le_bytes_8}
 use Rattle.host_traits.specs.declared.calls.TapeItem.{TapeItem}
 use Rattle.host_traits.specs.declared.calls.TapeItem.TheVariants.{Failed, Done, Number, Bytes}
-use Rattle.host_tape.specs.declared.places.TapeFault.{TapeFault}
-use Rattle.host_tape.specs.declared.places.TapeFault.TheVariants as faults
+use Rattle.host_tape.specs.declared.fault.TapeFault.{TapeFault}
+use Rattle.host_tape.specs.declared.fault.TapeFault.TheVariants as faults
 use Rattle.host_tape.specs.Tape.{IsItem, item_bytes, items_bytes, header, tape_bytes, IsTape, BeginsNone, IsBroken, Breaks}
-use Rattle.host_tape.specs.Reading.{record_of, Reads, Stops, Found, Reading, IsRead, IsRefused}
+use Rattle.host_tape.specs.Reading.{record_of, items_in, Reads, Stops, Found, Reading, IsRead, IsRefused}
 use Rattle.host_tape.specs.Played.{Played, unplayed}
+use Rattle.host_tape.proofs.Steps.{all_read}
 
 -- ---- bytes
 
@@ -185,6 +186,10 @@ reads_again (item ∷ items) rest h =
       ap record_of parts ∙ record_again item (items_bytes items ++ rest) h.0,
       subst (λ (x : List ℕ). Reads x items rest) (sym (ap (drop (length front)) parts ∙ drop_at front (items_bytes items ++ rest) (length front) refl)) (reads_again items rest h.1),
     )
+
+-- the records of a tape are those behind its header
+pub spelled_items : (items : List TapeItem) → AllByRecursion IsItem items → items_in (length items) (items_bytes items) ≡ items
+spelled_items items each = ap (items_in (length items)) (sym (append-nil (items_bytes items))) ∙ all_read (items_bytes items ++ []) items [] (reads_again items [] each)
 
 pair_is : (x y : TapeItem × ℕ) → let a : Front = Some x in a ≡ Some y → x ≡ y
 pair_is x y e = cc

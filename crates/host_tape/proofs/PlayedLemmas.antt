@@ -1,7 +1,7 @@
 -- One call more on a tape.
 use Rattle.std.proofs.Common.{length-append, ◌≡◌, ℕ, ◌+◌, ◌-◌, ◌^◌, ◌<◌, ◌≤◌, min, List, [], ◌∷◌, ◌++◌, length, refl, ap, sym, ◌∙◌, append_assoc, append-nil, inl, inr, arith, Option, Some, None}
 use Rattle.std.proofs.lemmas.Option.{slice_get_within}
-use Rattle.std.specs.Prelude.{slice_get, drop, zero, suc, false, true}
+use Rattle.std.specs.Prelude.{slice_get, drop, zero, suc}
 use Rattle.std.proofs.lemmas.List.{drop-drop, drop_all}
 use Rattle.host_traits.specs.declared.calls.Call.{Call}
 use Rattle.host_traits.specs.declared.calls.Said.{Said}
@@ -30,7 +30,7 @@ came_of-next (c ∷ calls) [] call r at = cc
 came_of-next (c ∷ calls) (s ∷ records) call r at = ap (λ z. (c, answer_of (kind_of c) s) ∷ z) (came_of-next calls records call r at)
 
 -- the records that are left begin with the next one
-drop_at : (records : List TapeItem) (n : ℕ) (r : TapeItem) → slice_get records n ≡ Some r → drop n records ≡ r ∷ drop (suc n) records
+pub drop_at : (records : List TapeItem) (n : ℕ) (r : TapeItem) → slice_get records n ≡ Some r → drop n records ≡ r ∷ drop (suc n) records
 drop_at [] zero r at = cc
 drop_at [] (suc n) r at = cc
 drop_at (s ∷ records) zero r at = ap (λ x. x ∷ records) (some_is at)

@@ -1,53 +1,13 @@
 -- What the front of some bytes is read as, and what a tape that was read has told.
-use Rattle.std.specs.Prelude.{◌≡◌, ℕ, zero, suc, ◌+◌, ◌<◌, ◌≤◌, List, [], ◌∷◌, length, map, take, drop, Option, Some, None, Result, Ok, Err, ◌⊎◌, nat_lt, ◌||◌, if◌then◌else◌, All}
+use Rattle.std.specs.Prelude.{◌≡◌, ℕ, zero, suc, ◌+◌, ◌<◌, ◌≤◌, List, [], ◌∷◌, length, take, drop, Option, Some, None, Result, Ok, Err, ◌⊎◌, nat_lt, ◌||◌, if◌then◌else◌}
 use Rattle.std.specs.Int.{w32, w64, from_le_bytes}
-use Rattle.std.specs.Global.{Vec}
 use Rattle.host_traits.specs.declared.calls.TapeItem.{TapeItem}
 use Rattle.host_traits.specs.declared.calls.TapeItem.TheVariants.{Failed, Done, Number, Bytes}
-use Rattle.host_tape.specs.declared.places.Place.{Place}
-use Rattle.host_tape.specs.declared.places.Place.TheVariants as places
-use Rattle.host_tape.specs.declared.places.TapeFault.{TapeFault}
-use Rattle.host_tape.specs.declared.places.TapeFault.TheVariants as faults
+use Rattle.host_tape.specs.declared.fault.TapeFault.{TapeFault}
+use Rattle.host_tape.specs.declared.fault.TapeFault.TheVariants as faults
 use Rattle.host_tape.specs.Tape.{IsTape, Breaks, header}
 use Rattle.host_traits.specs.declared.calls.Call.{Call}
 use Rattle.host_tape.specs.Played.{Played, unplayed, IsPlayed}
-
--- the record at a place of the text
-abbrev pub item_in : List ℕ → Place → TapeItem
-item_in text places.Failed = Failed
-item_in text places.Done = Done
-item_in text (places.Number n) = Number n
-item_in text (places.Bytes from len) = Bytes (take len (drop from text))
-
-abbrev pub from_in : Place → ℕ
-from_in places.Failed = 0
-from_in places.Done = 0
-from_in (places.Number n) = 0
-from_in (places.Bytes from len) = from
-
--- where the bytes of a record end, and how many there are
-abbrev pub end_in : Place → ℕ
-end_in places.Failed = 0
-end_in places.Done = 0
-end_in (places.Number n) = 0
-end_in (places.Bytes from len) = from + len
-
-abbrev pub len_in : Place → ℕ
-len_in places.Failed = 0
-len_in places.Done = 0
-len_in (places.Number n) = 0
-len_in (places.Bytes from len) = len
-
--- the bytes lie in a text of this length, and are an answer's
-pub record IsInside (len : ℕ) (p : Place) : Type 0 where
-  pub end : end_in p ≤ len
-  pub few : len_in p ≤ 69632
-
-abbrev pub moved : ℕ → Place → Place
-moved at places.Failed = places.Failed
-moved at places.Done = places.Done
-moved at (places.Number n) = places.Number n
-moved at (places.Bytes from len) = places.Bytes (at + from) len
 
 -- the record that a text begins with, and how many bytes it has
 unfoldable pub record_of : List ℕ → Option (TapeItem × ℕ)
@@ -61,6 +21,20 @@ record_of (suc (suc (suc zero)) ∷ rest) =
     else Some (Bytes (take (from_le_bytes w32 (take 4 rest)) (drop 4 rest)), 5 + from_le_bytes w32 (take 4 rest))
 record_of (suc (suc (suc (suc b))) ∷ rest) = None
 
+-- the place behind the record that begins here, or this place where none does
+abbrev pub behind_one : Option (TapeItem × ℕ) → ℕ → ℕ
+behind_one None at = at
+behind_one (Some found) at = at + found.1
+
+abbrev pub and_then : Option (TapeItem × ℕ) → (ℕ → List TapeItem) → List TapeItem
+and_then None others = []
+and_then (Some found) others = found.0 ∷ others found.1
+
+-- the records at the front of a text, at most so many
+abbrev pub items_in : ℕ → List ℕ → List TapeItem
+items_in zero text = []
+items_in (suc count) text = and_then (record_of text) (λ n. items_in count (drop n text))
+
 -- from the front of the text these records are read, and this is left
 abbrev pub Reads : List ℕ → List TapeItem → List ℕ → Type 0
 Reads text [] rest = text ≡ rest
@@ -70,8 +44,15 @@ Reads text (item ∷ others) rest = (n : ℕ) × (record_of text ≡ Some (item,
 abbrev pub Stops : List ℕ → ℕ → Type 0
 Stops text at = (13 ≤ at) × (at < length text) × ((items : List TapeItem) × Reads (drop 13 text) items (drop at text)) × (record_of (drop at text) ≡ None)
 
-abbrev pub Finds : List ℕ → Result (Vec Place) TapeFault → Type 0
-Finds text (Ok v) = Reads (drop 13 text) (map (item_in text) v.items) []
+-- so many records are read from the front of the text, and this is left
+pub record Counted (text : List ℕ) (count : ℕ) (rest : List ℕ) : Type 0 where
+  pub items : List TapeItem
+  pub are : length items ≡ count
+  pub reads : Reads text items rest
+
+-- so many records stand behind the header, and nothing behind these
+abbrev pub Finds : List ℕ → Result ℕ TapeFault → Type 0
+Finds text (Ok count) = Counted (drop 13 text) count []
 Finds text (Err (faults.At at)) = Stops text at
 Finds text (Err faults.Memory) = Unit {0}
 
@@ -100,7 +81,9 @@ IsRefused at (Ok t) = ⊥
 IsRefused at (Err (faults.At place)) = place ≡ at
 IsRefused at (Err faults.Memory) = Unit {0}
 
--- the counters of a tape are right, and its places lie in its text
-pub record IsKept (text : List ℕ) (places : List Place) (calls : List Call) (room refused size : ℕ) (last_late : Option Call) : Type 0 where
-  pub played : IsPlayed (map (item_in text) places) calls room refused size last_late
-  pub inside : All (IsInside (length text)) places
+-- the counters of a tape are right, and the records that are left are those behind its place
+pub record IsKept (text : List ℕ) (count at : ℕ) (calls : List Call) (room refused size : ℕ) (last_late : Option Call) : Type 0 where
+  pub played : IsPlayed (items_in count (drop 13 text)) calls room refused size last_late
+  pub counted : length (items_in count (drop 13 text)) ≡ count
+  pub within : at ≤ length text
+  pub ahead : Reads (drop at text) (drop (length calls) (items_in count (drop 13 text))) []

@@ -1,25 +1,27 @@
 // A host that answers from records.
-ghost use Rattle.std.specs.Prelude.{◌≡◌, ◌<◌, ◌≤◌, ◌+◌, ◌-◌, ◌*◌, ◌^◌, min, List, ℕ, [], ◌∷◌, ◌++◌, All, length, map, slice_get, IfOk, IfErr, Some, None};
+ghost use Rattle.std.specs.Prelude.{◌≡◌, ◌<◌, ◌≤◌, ◌+◌, ◌-◌, ◌*◌, ◌^◌, min, List, ℕ, [], ◌∷◌, ◌++◌, length, drop, slice_get, IfOk, IfErr, Ok, Some, None};
 ghost use Rattle.std.specs.Option.{option_map};
 ghost use Rattle.host_traits.specs.declared.calls.Said.TheVariants.{Number, Bytes, Done};
 ghost use Rattle.host_traits.specs.Told.{Told, Asked, Fills, Refused, kind_of, kind_bytes, kind_number, kind_done};
-ghost use Rattle.host_tape.specs.declared.places.TapeFault.TheVariants.{Memory};
+ghost use Rattle.host_tape.specs.declared.fault.TapeFault.TheVariants.{Memory};
 ghost use Rattle.host_tape.specs.Played.{Played, AnswersBy, Refuses, tape_told, unplayed};
-ghost use Rattle.host_tape.specs.Reading.{item_in, IsInside};
+ghost use Rattle.host_tape.specs.Reading.{items_in, Finds};
 ghost use Rattle.host_tape.specs.Next.{item_by};
 
+use crate::fault::TapeFault;
+use crate::front::{behind, front_record};
 use crate::next::Next;
-use crate::places::{Place, TapeFault};
 use host_traits::{Call, Host, HostError, Raw};
 use std::alloc::Global;
 use std::marker::Model;
 
-/// A host that answers each call by the next record of its text. Contracts see the records and the
-/// calls that took one.
+/// A host that answers each call by the next record of its text. It keeps the text, the place of the
+/// next record in it, and the calls that took one. Contracts see the records and these calls.
 #[derive(Drop)]
 pub struct Tape {
     text: Vec<u8>,
-    places: Vec<Place>,
+    count: usize,
+    at: usize,
     calls: Vec<Call>,
     refused: u64,
     late: u64,
@@ -29,27 +31,29 @@ pub struct Tape {
 
 impl Model for Tape {
     ghost use Rattle.host_tape.specs.Played.{Played};
-    ghost use Rattle.host_tape.specs.Reading.{item_in, IsKept};
-    ghost use Rattle.std.specs.Prelude.{map, vec_capacity};
+    ghost use Rattle.host_tape.specs.Reading.{items_in, IsKept};
+    ghost use Rattle.std.specs.Prelude.{drop, vec_capacity};
 
     ghost Value = { Played };
 
-    ghost view = { λ a. record { records = map (item_in a.text.items) a.places.items; calls = a.calls.items; late = a.late; last_late = a.last_late } };
+    ghost view = { λ a. record { records = items_in a.count (drop 13 a.text.items); calls = a.calls.items; late = a.late; last_late = a.last_late } };
 
-    ghost invariant = { λ a. IsKept a.text.items a.places.items a.calls.items (vec_capacity a.calls) a.refused a.size a.last_late };
+    ghost invariant = { λ a. IsKept a.text.items a.count a.at a.calls.items (vec_capacity a.calls) a.refused a.size a.last_late };
 }
 
 impl Tape {
-    // A tape of the records at these places, with room for their calls.
-    pub(crate) fn new(alloc: Global, text: Vec<u8>, places: Vec<Place>) -> Result<Tape, TapeFault>
-        requires { All (IsInside (length text.items)) places.items }
-        ensures ok { IfOk result (λ tape. tape ≡ unplayed (map (item_in text.items) places.items)) }
+    // A tape of a text of so many records, with room for their calls.
+    pub(crate) fn new(alloc: Global, text: Vec<u8>, count: usize) -> Result<Tape, TapeFault>
+        requires header { 13 ≤ length text.items }
+        requires finds { Finds text.items (Ok count) }
+        ensures ok { IfOk result (λ tape. tape ≡ unplayed (items_in count (drop 13 text.items))) }
         ensures err { IfErr result (λ e. e ≡ Memory) }
     {
-        match Vec::with_capacity(alloc, places.len()) {
+        match Vec::with_capacity(alloc, count) {
             Ok(calls) => Ok(Tape {
                 text,
-                places,
+                count,
+                at: 13,
                 calls,
                 refused: 0,
                 late: 0,
@@ -64,11 +68,8 @@ impl Tape {
     fn next(&self) -> Option<Next<'_>>
         ensures { option_map item_by result ≡ slice_get self.now.records (length self.now.calls) }
     {
-        match self.places.get(self.calls.len()) {
-            Some(Place::Failed) => Some(Next::Failed),
-            Some(Place::Done) => Some(Next::Done),
-            Some(Place::Number(n)) => Some(Next::Number(*n)),
-            Some(Place::Bytes { from, len }) => Some(Next::Bytes(&self.text[*from..*from + *len])),
+        match front_record(&self.text[self.at..]) {
+            Some((record, _)) => Some(record),
             None => None,
         }
     }
@@ -78,7 +79,8 @@ impl Tape {
         requires { Refuses self.old.records (length self.old.calls) call }
         ensures { (given : List ℕ) → Refused call given (tape_told self.old) (tape_told self.new) }
     {
-        if self.calls.len() < self.places.len() {
+        if self.calls.len() < self.count {
+            self.at = behind(&self.text, self.at);
             let _ = self.calls.push(call);
             self.refused += 1;
         } else {
@@ -92,6 +94,7 @@ impl Tape {
         requires { AnswersBy self.old call size }
         ensures { self.new ≡ record self.old { calls = self.old.calls ++ call ∷ [] } }
     {
+        self.at = behind(&self.text, self.at);
         let _ = self.calls.push(call);
         self.size = self.size.saturating_add(size as u64);
     }

@@ -9,8 +9,6 @@ pub mod host;
 pub mod mem_folder;
 pub mod memory;
 pub mod streams;
-#[cfg(test)]
-mod tests;
 
 pub use crate::answers::{Answer, Raw};
 pub use crate::calls::{Call, Said, TapeItem};

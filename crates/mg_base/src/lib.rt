@@ -5,8 +5,6 @@ pub mod cursor;
 pub mod errno;
 pub mod page;
 pub mod salt;
-#[cfg(test)]
-mod tests;
 pub mod values;
 
 pub use crate::cursor::{Cursor, Truncated};

@@ -170,6 +170,3 @@ pub fn ancestor_of(block: u64, level: u32) -> u64
     }
     index
 }
-
-#[cfg(test)]
-mod tests;

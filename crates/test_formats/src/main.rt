@@ -1,12 +1,16 @@
-//! Cases for the readers of binary formats and for the ciphers, one a line of standard input, and what each call answers,
+//! Cases for the readers of binary formats, for hash trees and for the ciphers, one a line of standard input, and what each call answers,
 //! one line each on standard output. A line that begins with `#` says where the values below it come from, and is printed as it is.
 #![tactic(auto)]
 
 mod ciphers;
+mod low;
+mod memory;
 mod readers;
 mod words;
 
 use crate::ciphers::{aes_line, changed_line, hkdf_line, hmac_line, seal_line};
+use crate::low::{numbers_line, page_line, places_line, salt_line, tree_line};
+use crate::memory::{answer_line, folder_line, sink_line, source_line};
 use crate::readers::{crc_line, descriptor_line, frame_line, guid_line, idsig_line, idsig_of_line};
 use anyhow::{Result, bail};
 use std::alloc::Global;
@@ -28,6 +32,15 @@ fn outcome(alloc: Global, words: &[&str]) -> Result<String> {
         ["changed", key, nonce, head, text] => changed_line(alloc, *key, *nonce, *head, *text),
         ["hmac", key, text] => hmac_line(alloc, *key, *text),
         ["hkdf", salt, key, info] => hkdf_line(alloc, *salt, *key, *info),
+        ["numbers", bytes] => numbers_line(alloc, *bytes),
+        ["page", at, put, padded, from] => page_line(alloc, *at, *put, *padded, *from),
+        ["salt", bytes] => salt_line(alloc, *bytes),
+        ["tree", bytes, piece, salt] => tree_line(alloc, *bytes, *piece, *salt),
+        ["places", blocks] => places_line(alloc, *blocks),
+        ["source", bytes, piece, failing] => source_line(alloc, *bytes, *piece, *failing),
+        ["sink", room, failing, pieces @ ..] => sink_line(alloc, *room, *failing, pieces),
+        ["folder", failing, steps @ ..] => folder_line(alloc, *failing, steps),
+        ["answer", put, others] => answer_line(alloc, *put, *others),
         _ => bail!("no such case"),
     }
 }

@@ -2,7 +2,7 @@
 use anyhow::{Result, bail};
 use std::alloc::Global;
 
-const LIMIT: usize = 1_048_576;
+const LIMIT: usize = 134_217_728;
 
 // So many bytes, byte j being j mod 251.
 fn counted(alloc: Global, count: usize) -> Result<Vec<u8>> {
@@ -13,7 +13,7 @@ fn counted(alloc: Global, count: usize) -> Result<Vec<u8>> {
     Ok(bytes)
 }
 
-// A number of at most 1 MiB.
+// A number of at most 128 MiB.
 fn count_of(word: &str) -> Result<usize> {
     let count = word.parse::<usize>()?;
     if count > LIMIT {

@@ -6,3 +6,5 @@ pub mod Fielded
 pub mod Printed
 pub mod Whole
 pub mod Public
+pub mod Prefixes
+pub mod Lists

@@ -1,18 +1,19 @@
 -- No value that a line spells has a space or a line feed in it.
-use Rattle.std.proofs.Common.{◌≡◌, ◌<◌, ◌/◌, ◌%◌, ◌^◌, ℕ, zero, suc, List, [], ◌∷◌, length, get_or, Bool, true, false, ◌&&◌, not, ltb, eqb, refl, arith, rules}
+use Rattle.std.proofs.Common.{◌≡◌, ◌<◌, ◌/◌, ◌%◌, ◌^◌, ℕ, zero, suc, List, [], ◌∷◌, ◌++◌, length, get_or, Bool, true, false, ◌&&◌, not, ltb, eqb, refl, arith, rules}
 use Rattle.std.proofs.lemmas.Bool.{ltb-true, lt-ltb, eqb-true}
 use Rattle.std.specs.Char.{is_ascii_digit}
 use Rattle.std.specs.Str.{all_ascii_digits}
 use Rattle.std.specs.Fmt.{decimal}
 use Rattle.std.specs.List.{list_all}
+use Rattle.std.proofs.lemmas.List.Folds.{list_all-append}
 use Rattle.std.proofs.lemmas.Fmt.{digits_decimal}
 use Rattle.std.proofs.lemmas.Str.Parse.{IsNumeralModel, numerals_by_value}
 use Rattle.std.specs.Str.Parse.{digits_value}
 use Rattle.hex.specs.Hex.{IsBytes, encode_with, lower_digits}
 use Rattle.text_lines.specs.Values.{is_printed}
-use Rattle.text_lines.specs.Spelling.{salt_text}
+use Rattle.text_lines.specs.Spelling.{◌then◌, salt_text}
 use Rattle.text_lines.proofs.Spelled.{both, digit_range}
-use Rattle.text_lines.proofs.Fielded.{is_free}
+use Rattle.text_lines.proofs.Fielded.{Free, OneLine, is_free}
 
 abbrev pub printed : List ℕ → Bool
 printed x = list_all (λ b. ltb 32 b) x
@@ -69,3 +70,14 @@ name_bytes_printed [] h = refl
 name_bytes_printed (b ∷ text) h =
     let k = both (is_printed b) (list_all is_printed text) h in
     and_true (ltb 32 b) (printed text) (both (ltb 32 b) (ltb b 127) k.0).0 (name_bytes_printed text k.1)
+
+-- ---- printed text in a line
+
+pub free : (x : List ℕ) → printed x ≡ true → Free x
+free x h = printed_free 32 x (omega arith) h
+
+pub one : (x : List ℕ) → printed x ≡ true → OneLine x
+one x h = printed_free 10 x (omega arith) h
+
+pub then_one : (a b : List ℕ) → OneLine a → OneLine b → OneLine (a then b)
+then_one a b ha hb = rw (list_all-append (λ x. not (eqb x 10)) a (32 ∷ b), ha) hb

@@ -1,6 +1,9 @@
 -- How values are spelled, and texts of items: the grammar, apart from how it is read.
 use Rattle.std.specs.Prelude.{◌≡◌, ℕ, ◌+◌, ◌<◌, List, [], ◌∷◌, ◌++◌, length, map, Result, Ok, codes}
+use Rattle.std.specs.Fmt.{decimal}
+use Rattle.std.specs.Int.{w32, to_be_bytes}
 use Rattle.std.specs.List.{flat_map, AllByRecursion}
+use Rattle.mg_base.specs.declared.values.Digest.{Digest}
 use Rattle.hex.specs.Hex.{IsBytes, encode_lower}
 use Rattle.text_lines.specs.declared.kinds.PlanKind.{PlanKind}
 use Rattle.text_lines.specs.Fields.{◌>>=◌}
@@ -21,6 +24,18 @@ field then others = field ++ 32 ∷ others
 abbrev pub salt_text : List ℕ → List ℕ
 salt_text [] = codes "-"
 salt_text (b ∷ bytes) = encode_lower (b ∷ bytes)
+
+-- two numbers
+abbrev pub pair_text : ℕ → ℕ → List ℕ
+pair_text a b = decimal a ++ codes " " ++ decimal b
+
+-- the eight digits of a CRC-32
+abbrev pub crc_text : ℕ → List ℕ
+crc_text crc = encode_lower (to_be_bytes w32 crc)
+
+-- two digests, 64 digits each
+abbrev pub digests_text : Digest → Digest → List ℕ
+digests_text a b = encode_lower a.0 ++ codes " " ++ encode_lower b.0
 
 -- a line with its line feed
 abbrev pub ended : List ℕ → List ℕ

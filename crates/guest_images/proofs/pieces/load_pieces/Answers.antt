@@ -1,6 +1,6 @@
 use Rattle.std.proofs.Common.{◌∙◌, Option, take, subst, arith}
 use Rattle.host_traits.specs.Folders.{Files}
-use Rattle.guest_images.proofs.Cuts.{take_here}
+use Rattle.guest_files.proofs.Cuts.{take_here}
 use Rattle.guest_images.specs.Composed.{PieceLoaded}
 use Rattle.guest_images.proofs.Pieced.{pieces_then, pieces_fail}
 use Rattle.guest_images.proofs.pieces.load_pieces.Goals as goal

@@ -11,15 +11,16 @@ pub invariant_of-self : goal.invariant_of-self
 invariant_of-self c =
     let before = c.self.inside in
     let item : TapeItem = item_by c.args.next in
-    let put = c.put-place.ensures in
     let fits : length (item_bytes item) ≤ spare_behind before.text.items (vec_capacity before.text) = rw (← c.self.view_is) at c.requires.spare in
     let some : 0 < length before.text.items = begun_some before.text.items (vec_capacity before.text) item fits in
-    rw (c.push_reserved.ensures.items, c.push_reserved-2.ensures.items)
-    (one_more before.calls.items before.text.items c.put-place.new.text.items before.places.items before.size before.faults c.args.size c.args.faults _ _ c.args.call c.put-place.result item
-    c.self.invariant some c.requires.is put.text put.says put.inside c.requires.size c.requires.faults c.saturating_add-self-inside.ensures c.saturating_add-self-inside-2.ensures)
+    rw c.push_reserved.ensures.items
+    (one_more before.calls.items before.text.items c.put.new.text.items before.size before.faults c.args.size c.args.faults _ _ c.args.call item
+    c.self.invariant some c.requires.is c.put.ensures c.requires.size c.requires.faults c.saturating_add-self-inside.ensures c.saturating_add-self-inside-2.ensures)
 
 pub returns : goal.returns
 returns c =
     let before = c.self.inside in
-    let put = c.put-place.ensures in
-    rw (← c.self.view_is, c.push_reserved.ensures.items, c.push_reserved-2.ensures.items, items-push before.text.items c.put-place.new.text.items before.places.items c.put-place.result (item_by c.args.next) c.self.invariant.inside put.text put.says) refl
+    let item : TapeItem = item_by c.args.next in
+    let fits : length (item_bytes item) ≤ spare_behind before.text.items (vec_capacity before.text) = rw (← c.self.view_is) at c.requires.spare in
+    let some : 0 < length before.text.items = begun_some before.text.items (vec_capacity before.text) item fits in
+    rw (← c.self.view_is, c.push_reserved.ensures.items, items-push before.calls.items before.text.items c.put.new.text.items before.size before.faults c.args.call item c.self.invariant some c.requires.is c.put.ensures) refl

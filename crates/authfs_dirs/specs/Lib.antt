@@ -1,0 +1,5 @@
+pub mod Names
+pub mod Tables
+pub mod Inodes
+pub mod Dirents
+pub mod Lines

@@ -1,0 +1,18 @@
+//! The nodes and names of a session: which names a directory has, which node each one names, and how long a node lives.
+#![tactic(auto)]
+
+mod dirs;
+mod inode;
+mod kind;
+mod listing;
+mod name_table;
+mod new_name;
+mod nodes;
+mod rows;
+#[cfg(test)]
+mod tests;
+
+pub use dirs::{Dirs, MOST_MADE, MOST_NODES, ROOT};
+pub use kind::Kind;
+pub use listing::Listing;
+pub use new_name::NewName;
