@@ -205,7 +205,8 @@ fn send<K: Sink>(first: &[u8], second: &[u8], sink: &mut K) -> Result<(), Failed
 /// Writes a reply (`fuse_out_header` and its body) by one write, or two where bytes are served or listed. After `Failed` a
 /// prefix of it was written. It takes no memory.
 pub fn encode_reply<K: Sink>(reply: &FuseReply, served: &Served, sink: &mut K) -> Result<(), Failed>
-    ensures writes { Writes (K.holds sink.old) (K.holds sink.new) (sent reply.now served.now) result }
+    ensures writes { Writes (K.holds sink.old) (K.holds sink.new)
+        (sent reply.now served.now) result }
     ensures never_silent { answered reply.now served.now ≡ Some (sent reply.now served.now) }
     ensures cause { HasCause (K.faults sink.old) (K.faults sink.new) result }
 {
