@@ -22,7 +22,7 @@ use Rattle.guest_plan.specs.Items.{host_number}
 use Rattle.guest_plan.specs.declared.store.StoreLine.{StoreLine}
 use Rattle.guest_plan.specs.declared.store.StoreLine.TheVariants as stored
 use Rattle.guest_plan.specs.declared.store.Store.{Store}
-use Rattle.guest_plan.specs.StoreItems.{disk_of, composite_of, verity_of, empty_of, dir_of, keep_disk_of, keep_file_of, keep_by, keep_of, store_line_of}
+use Rattle.guest_plan.specs.StoreItems.{numbered_of, numbered_line_of, disk_of, composite_of, verity_of, empty_of, dir_of, keep_disk_of, keep_file_of, keep_by, keep_of, store_line_of}
 use Rattle.guest_plan.specs.Stores.{IsStoreLine, store_text, store_clash, store_missing, store_header, store_of, IsStore, TellsStore}
 
 ok_is : {A : Type 0} (x y : A) → let r : Result A PlanKind = Ok x in r ≡ Ok y → x ≡ y
@@ -40,40 +40,61 @@ record AreNamed (n f : List ℕ) (p : Named) : Type 0 where
   number : p.0 < 2147483648
   name : is_folder_name p.1 ≡ true
   spelled : (n then f) ≡ (decimal p.0 then p.1)
+  spelled_then : (rest : List ℕ) → (n then f then rest) ≡ (decimal p.0 then p.1 then rest)
 
-named_take : (make : ℕ → List ℕ → StoreLine) (n f : List ℕ) (l : StoreLine) → (host_number n >>= λ k. folder_name_of f >>= λ file. Ok (make k file)) ≡ Ok l → (p : Named) × AreNamed n f p × (make p.0 p.1 ≡ l)
-named_take make n f l e =
-    let x = bind_ok (host_number n) (λ k. folder_name_of f >>= λ file. Ok (make k file)) l e in
-    let y = bind_ok (folder_name_of f) (λ file. Ok (make x.0 file)) l x.2 in
+numbered_take : (n f : List ℕ) (p : Named) → numbered_of n f ≡ Ok p → AreNamed n f p
+unfolding numbered_of
+numbered_take n f p e =
+    let x = bind_ok (host_number n) (λ k. folder_name_of f >>= λ file. Ok (k, file)) p e in
+    let y = bind_ok (folder_name_of f) (λ file. Ok (x.0, file)) p x.2 in
     let number = number_takes 0 2147483648 n x.0 (omega arith) x.1 in
-    let name = folder_name_takes f y.0 y.1 in (
-      (x.0, y.0),
-      record {
-        number = number.2;
-        name = name.1;
-        spelled = ap (λ (t : List ℕ). t then f) number.0 ∙ ap (λ (t : List ℕ). decimal x.0 then t) name.0;
-      },
-      ok_is (make x.0 y.0) l y.2,
-    )
+    let name = folder_name_takes f y.0 y.1 in
+    let made : Named = (x.0, y.0) in
+    subst (AreNamed n f) (ok_is made p y.2) (record {
+      number = number.2;
+      name = name.1;
+      spelled = ap (λ (t : List ℕ). t then f) number.0 ∙ ap (λ (t : List ℕ). decimal x.0 then t) name.0;
+      spelled_then = λ rest. ap (λ (t : List ℕ). t then f then rest) number.0 ∙ ap (λ (t : List ℕ). decimal x.0 then t then rest) name.0;
+    })
+
+numbered_again : (n : ℕ) (file : List ℕ) → n < 2147483648 → is_folder_name file ≡ true → let p : Named = (n, file) in numbered_of (decimal n) file ≡ Ok p
+unfolding numbered_of
+numbered_again n file few name = rw (number_again 0 2147483648 n (omega arith) (omega arith) few, folder_name_again file name) refl
+
+-- what a line is, behind its word, that reads as this number and name
+record HasNumbered (line word : List ℕ) (p : Named) : Type 0 where
+  number : p.0 < 2147483648
+  name : is_folder_name p.1 ≡ true
+  whole : line ≡ (word then decimal p.0 then p.1)
+
+numbered_line_takes : (line word : List ℕ) (p : Named) → first_field line ≡ word → numbered_line_of line ≡ Ok p → HasNumbered line word p
+unfolding numbered_line_of
+numbered_line_takes line word p first e =
+    let a = bind_ok (three_fields line) (λ f. numbered_of f.1 f.2) p e in
+    let f = a.0 in
+    let is = numbered_take f.1 f.2 p a.2 in
+    let h = three_take line f a.1 in
+    record { number = is.number; name = is.name; whole = h.0 ∙ ap (λ (w : List ℕ). w then f.1 then f.2) (sym h.1 ∙ first) ∙ ap (λ (t : List ℕ). word then t) is.spelled }
+
+abbrev disk : Named → StoreLine
+disk p = stored.Disk p.0 p.1
 
 disk_takes : (line : List ℕ) (l : StoreLine) → first_field line ≡ codes "disk" → disk_of line ≡ Ok l → Is line l
 unfolding disk_of
 disk_takes line l word e =
-    let a = bind_ok (three_fields line) (λ f. host_number f.1 >>= λ k. folder_name_of f.2 >>= λ file. Ok (stored.Disk k file)) l e in
-    let f = a.0 in
-    let b = named_take stored.Disk f.1 f.2 l a.2 in
-    let p = b.0 in
-    let h = three_take line f a.1 in
-    subst (Is line) b.2 ((b.1.number, b.1.name), h.0 ∙ ap (λ (w : List ℕ). w then f.1 then f.2) (sym h.1 ∙ word) ∙ ap (λ (t : List ℕ). codes "disk" then t) b.1.spelled)
+    let a = bind_ok (numbered_line_of line) (λ p. Ok (disk p)) l e in
+    let is = numbered_line_takes line (codes "disk") a.0 word a.1 in
+    subst (Is line) (ok_is (disk a.0) l a.2) ((is.number, is.name), is.whole)
+
+abbrev composite : Named → StoreLine
+composite p = stored.Composite p.0 p.1
 
 composite_takes : (line : List ℕ) (l : StoreLine) → first_field line ≡ codes "composite" → composite_of line ≡ Ok l → Is line l
 unfolding composite_of
 composite_takes line l word e =
-    let a = bind_ok (three_fields line) (λ f. host_number f.1 >>= λ k. folder_name_of f.2 >>= λ file. Ok (stored.Composite k file)) l e in
-    let f = a.0 in
-    let b = named_take stored.Composite f.1 f.2 l a.2 in
-    let h = three_take line f a.1 in
-    subst (Is line) b.2 ((b.1.number, b.1.name), h.0 ∙ ap (λ (w : List ℕ). w then f.1 then f.2) (sym h.1 ∙ word) ∙ ap (λ (t : List ℕ). codes "composite" then t) b.1.spelled)
+    let a = bind_ok (numbered_line_of line) (λ p. Ok (composite p)) l e in
+    let is = numbered_line_takes line (codes "composite") a.0 word a.1 in
+    subst (Is line) (ok_is (composite a.0) l a.2) ((is.number, is.name), is.whole)
 
 abbrev verity : ℕ → List ℕ → List ℕ → StoreLine
 verity n file salt = stored.Verity n file salt
@@ -81,41 +102,38 @@ verity n file salt = stored.Verity n file salt
 verity_takes : (line : List ℕ) (l : StoreLine) → first_field line ≡ codes "verity" → verity_of line ≡ Ok l → Is line l
 unfolding verity_of
 verity_takes line l word e =
-    let a = bind_ok (four_fields line) (λ f. host_number f.1 >>= λ n. folder_name_of f.2 >>= λ file. page_salt f.3 >>= λ salt. Ok (verity n file salt)) l e in
+    let a = bind_ok (four_fields line) (λ f. numbered_of f.1 f.2 >>= λ p. page_salt f.3 >>= λ salt. Ok (verity p.0 p.1 salt)) l e in
     let f = a.0 in
-    let b = bind_ok (host_number f.1) (λ n. folder_name_of f.2 >>= λ file. page_salt f.3 >>= λ salt. Ok (verity n file salt)) l a.2 in
-    let c = bind_ok (folder_name_of f.2) (λ file. page_salt f.3 >>= λ salt. Ok (verity b.0 file salt)) l b.2 in
-    let d = bind_ok (page_salt f.3) (λ salt. Ok (verity b.0 c.0 salt)) l c.2 in
+    let b = bind_ok (numbered_of f.1 f.2) (λ p. page_salt f.3 >>= λ salt. Ok (verity p.0 p.1 salt)) l a.2 in
+    let p = b.0 in
+    let d = bind_ok (page_salt f.3) (λ salt. Ok (verity p.0 p.1 salt)) l b.2 in
     let h = four_take line f a.1 in
-    let number = number_takes 0 2147483648 f.1 b.0 (omega arith) b.1 in
-    let name = folder_name_takes f.2 c.0 c.1 in
+    let is = numbered_take f.1 f.2 p b.1 in
     let salt = salt_takes f.3 d.0 d.1 in
-    let spelled : line ≡ store_text (verity b.0 c.0 d.0) =
+    let spelled : line ≡ store_text (verity p.0 p.1 d.0) =
     h.0 ∙ ap (λ (w : List ℕ). w then f.1 then f.2 then f.3) (sym h.1 ∙ word)
-    ∙ ap (λ (t : List ℕ). codes "verity" then t then f.2 then f.3) number.0
-    ∙ ap (λ (t : List ℕ). codes "verity" then decimal b.0 then t then f.3) name.0
-    ∙ ap (λ (t : List ℕ). codes "verity" then decimal b.0 then c.0 then t) salt.0 in
-    subst (Is line) (ok_is (verity b.0 c.0 d.0) l d.2) ((number.2, name.1, (salt.1, salt.2)), spelled)
+    ∙ ap (λ (t : List ℕ). codes "verity" then f.1 then f.2 then t) salt.0
+    ∙ ap (λ (t : List ℕ). codes "verity" then t) (is.spelled_then (salt_text d.0)) in
+    subst (Is line) (ok_is (verity p.0 p.1 d.0) l d.2) ((is.number, is.name, (salt.1, salt.2)), spelled)
+
+-- a word and a number
+two_takes : (line word : List ℕ) (make : ℕ → StoreLine) (l : StoreLine) → first_field line ≡ word → (two_fields line >>= λ f. host_number f.1 >>= λ n. Ok (make n)) ≡ Ok l
+    → (n : ℕ) × (n < 2147483648) × (line ≡ (word then decimal n)) × (make n ≡ l)
+two_takes line word make l first e =
+    let a = bind_ok (two_fields line) (λ f. host_number f.1 >>= λ n. Ok (make n)) l e in
+    let f = a.0 in
+    let b = bind_ok (host_number f.1) (λ n. Ok (make n)) l a.2 in
+    let h = two_take line f a.1 in
+    let number = number_takes 0 2147483648 f.1 b.0 (omega arith) b.1 in
+    (b.0, number.2, h.0 ∙ ap (λ (w : List ℕ). w then f.1) (sym h.1 ∙ first) ∙ ap (λ (t : List ℕ). word then t) number.0, ok_is (make b.0) l b.2)
 
 empty_takes : (line : List ℕ) (l : StoreLine) → first_field line ≡ codes "empty" → empty_of line ≡ Ok l → Is line l
 unfolding empty_of
-empty_takes line l word e =
-    let a = bind_ok (two_fields line) (λ f. host_number f.1 >>= λ n. Ok (stored.Empty n)) l e in
-    let f = a.0 in
-    let b = bind_ok (host_number f.1) (λ n. Ok (stored.Empty n)) l a.2 in
-    let h = two_take line f a.1 in
-    let number = number_takes 0 2147483648 f.1 b.0 (omega arith) b.1 in
-    subst (Is line) (ok_is (stored.Empty b.0) l b.2) (number.2, h.0 ∙ ap (λ (w : List ℕ). w then f.1) (sym h.1 ∙ word) ∙ ap (λ (t : List ℕ). codes "empty" then t) number.0)
+empty_takes line l word e = let is = two_takes line (codes "empty") stored.Empty l word e in subst (Is line) is.3 (is.1, is.2)
 
 dir_takes : (line : List ℕ) (l : StoreLine) → first_field line ≡ codes "dir" → dir_of line ≡ Ok l → Is line l
 unfolding dir_of
-dir_takes line l word e =
-    let a = bind_ok (two_fields line) (λ f. host_number f.1 >>= λ n. Ok (stored.Dir n)) l e in
-    let f = a.0 in
-    let b = bind_ok (host_number f.1) (λ n. Ok (stored.Dir n)) l a.2 in
-    let h = two_take line f a.1 in
-    let number = number_takes 0 2147483648 f.1 b.0 (omega arith) b.1 in
-    subst (Is line) (ok_is (stored.Dir b.0) l b.2) (number.2, h.0 ∙ ap (λ (w : List ℕ). w then f.1) (sym h.1 ∙ word) ∙ ap (λ (t : List ℕ). codes "dir" then t) number.0)
+dir_takes line l word e = let is = two_takes line (codes "dir") stored.Dir l word e in subst (Is line) is.3 (is.1, is.2)
 
 abbrev Four : Type 0
 Four = List ℕ × List ℕ × List ℕ × List ℕ
@@ -124,17 +142,20 @@ Four = List ℕ × List ℕ × List ℕ × List ℕ
 abbrev IsKept : Four → StoreLine → Type 0
 IsKept f l = IsStoreLine l × ((codes "keep" then f.1 then f.2 then f.3) ≡ store_text l)
 
+keeps : (f : Four) (what : List ℕ) (make : Named → StoreLine) (l : StoreLine) → f.1 ≡ what → (numbered_of f.2 f.3 >>= λ p. Ok (make p)) ≡ Ok l
+    → (p : Named) × (p.0 < 2147483648) × (is_folder_name p.1 ≡ true) × ((codes "keep" then f.1 then f.2 then f.3) ≡ (codes "keep" then what then decimal p.0 then p.1)) × (make p ≡ l)
+keeps f what make l is e =
+    let b = bind_ok (numbered_of f.2 f.3) (λ p. Ok (make p)) l e in
+    let h = numbered_take f.2 f.3 b.0 b.1 in
+    (b.0, h.number, h.name, ap (λ (w : List ℕ). codes "keep" then w then f.2 then f.3) is ∙ ap (λ (t : List ℕ). codes "keep" then what then t) h.spelled, ok_is (make b.0) l b.2)
+
 keep_disk_takes : (f : Four) (l : StoreLine) → f.1 ≡ codes "disk" → keep_disk_of f.2 f.3 ≡ Ok l → IsKept f l
 unfolding keep_disk_of
-keep_disk_takes f l what e =
-    let b = named_take stored.KeepDisk f.2 f.3 l e in
-    subst (IsKept f) b.2 ((b.1.number, b.1.name), ap (λ (w : List ℕ). codes "keep" then w then f.2 then f.3) what ∙ ap (λ (t : List ℕ). codes "keep" then codes "disk" then t) b.1.spelled)
+keep_disk_takes f l what e = let is = keeps f (codes "disk") (λ p. stored.KeepDisk p.0 p.1) l what e in subst (IsKept f) is.4 ((is.1, is.2), is.3)
 
 keep_file_takes : (f : Four) (l : StoreLine) → f.1 ≡ codes "file" → keep_file_of f.2 f.3 ≡ Ok l → IsKept f l
 unfolding keep_file_of
-keep_file_takes f l what e =
-    let b = named_take stored.KeepFile f.2 f.3 l e in
-    subst (IsKept f) b.2 ((b.1.number, b.1.name), ap (λ (w : List ℕ). codes "keep" then w then f.2 then f.3) what ∙ ap (λ (t : List ℕ). codes "keep" then codes "file" then t) b.1.spelled)
+keep_file_takes f l what e = let is = keeps f (codes "file") (λ p. stored.KeepFile p.0 p.1) l what e in subst (IsKept f) is.4 ((is.1, is.2), is.3)
 
 abbrev line_done : StoreLine → Result StoreLine PlanKind
 line_done x = Ok x
@@ -191,24 +212,26 @@ name_free x h = name_bytes_printed x (folder_name_printed x h)
 number_free : (n : ℕ) → n < 2147483648 → printed (decimal n) ≡ true
 number_free n h = decimal_printed n (omega arith)
 
+numbered_line_again : (word : List ℕ) (n : ℕ) (file : List ℕ) → Free word → n < 2147483648 → is_folder_name file ≡ true → let p : Named = (n, file) in numbered_line_of (word then decimal n then file) ≡ Ok p
+unfolding numbered_line_of
+numbered_line_again word n file plain few name =
+    let d : List ℕ = decimal n in
+    rw (three_again word d file plain (free d (number_free n few)) (free file (name_free file name))) (numbered_again n file few name)
+
 disk_again : (n : ℕ) (file : List ℕ) → IsStoreLine (stored.Disk n file) → store_line_of (store_text (stored.Disk n file)) ≡ Ok (stored.Disk n file)
 unfolding store_line_of disk_of
-disk_again n file h =
-    let d : List ℕ = decimal n in
-    rw (first_again (codes "disk") (d then file) refl, three_again (codes "disk") d file refl (free d (number_free n h.0)) (free file (name_free file h.1)), number_again 0 2147483648 n (omega arith) (omega arith) h.0, folder_name_again file h.1) refl
+disk_again n file h = rw (first_again (codes "disk") (decimal n then file) refl, numbered_line_again (codes "disk") n file refl h.0 h.1) refl
 
 composite_again : (n : ℕ) (file : List ℕ) → IsStoreLine (stored.Composite n file) → store_line_of (store_text (stored.Composite n file)) ≡ Ok (stored.Composite n file)
 unfolding store_line_of composite_of
-composite_again n file h =
-    let d : List ℕ = decimal n in
-    rw (first_again (codes "composite") (d then file) refl, three_again (codes "composite") d file refl (free d (number_free n h.0)) (free file (name_free file h.1)), number_again 0 2147483648 n (omega arith) (omega arith) h.0, folder_name_again file h.1) refl
+composite_again n file h = rw (first_again (codes "composite") (decimal n then file) refl, numbered_line_again (codes "composite") n file refl h.0 h.1) refl
 
 verity_again : (n : ℕ) (file salt : List ℕ) → IsStoreLine (verity n file salt) → store_line_of (store_text (verity n file salt)) ≡ Ok (verity n file salt)
 unfolding store_line_of verity_of
 verity_again n file salt h =
     let d : List ℕ = decimal n in
     let s : List ℕ = salt_text salt in
-    rw (first_again (codes "verity") (d then file then s) refl, four_again (codes "verity") d file s refl (free d (number_free n h.0)) (free file (name_free file h.1)) (free s (salt_printed salt h.2.1)), number_again 0 2147483648 n (omega arith) (omega arith) h.0, folder_name_again file h.1, salt_again salt h.2.0 h.2.1) refl
+    rw (first_again (codes "verity") (d then file then s) refl, four_again (codes "verity") d file s refl (free d (number_free n h.0)) (free file (name_free file h.1)) (free s (salt_printed salt h.2.1)), numbered_again n file h.0 h.1, salt_again salt h.2.0 h.2.1) refl
 
 empty_again : (n : ℕ) → IsStoreLine (stored.Empty n) → store_line_of (store_text (stored.Empty n)) ≡ Ok (stored.Empty n)
 unfolding store_line_of empty_of
@@ -226,13 +249,13 @@ keep_disk_again : (n : ℕ) (file : List ℕ) → IsStoreLine (stored.KeepDisk n
 unfolding store_line_of keep_of keep_by keep_disk_of
 keep_disk_again n file h =
     let d : List ℕ = decimal n in
-    rw (first_again (codes "keep") (codes "disk" then d then file) refl, four_again (codes "keep") (codes "disk") d file refl refl (free d (number_free n h.0)) (free file (name_free file h.1)), number_again 0 2147483648 n (omega arith) (omega arith) h.0, folder_name_again file h.1) refl
+    rw (first_again (codes "keep") (codes "disk" then d then file) refl, four_again (codes "keep") (codes "disk") d file refl refl (free d (number_free n h.0)) (free file (name_free file h.1)), numbered_again n file h.0 h.1) refl
 
 keep_file_again : (n : ℕ) (file : List ℕ) → IsStoreLine (stored.KeepFile n file) → store_line_of (store_text (stored.KeepFile n file)) ≡ Ok (stored.KeepFile n file)
 unfolding store_line_of keep_of keep_by keep_file_of
 keep_file_again n file h =
     let d : List ℕ = decimal n in
-    rw (first_again (codes "keep") (codes "file" then d then file) refl, four_again (codes "keep") (codes "file") d file refl refl (free d (number_free n h.0)) (free file (name_free file h.1)), number_again 0 2147483648 n (omega arith) (omega arith) h.0, folder_name_again file h.1) refl
+    rw (first_again (codes "keep") (codes "file" then d then file) refl, four_again (codes "keep") (codes "file") d file refl refl (free d (number_free n h.0)) (free file (name_free file h.1)), numbered_again n file h.0 h.1) refl
 
 line_again : (l : StoreLine) → IsStoreLine l → store_line_of (store_text l) ≡ Ok l
 line_again (stored.Disk n file) h = disk_again n file h

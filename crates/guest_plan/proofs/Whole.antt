@@ -25,13 +25,13 @@ use Rattle.text_lines.proofs.Spelled.{name_printed, part_printed}
 use Rattle.text_lines.proofs.Whole.{IsRead, text_takes, text_again}
 use Rattle.guest_plan.specs.declared.plan.How.{How}
 use Rattle.guest_plan.specs.declared.plan.How.TheVariants.{Fixed, First, Kept}
-use Rattle.guest_plan.specs.declared.plan.PlanLine.TheVariants as served
+use Rattle.guest_plan.specs.declared.plan.PlanLine.TheVariants as planned
 use Rattle.guest_plan.specs.declared.plan.Item.{Item}
 use Rattle.guest_plan.specs.declared.plan.Item.TheVariants.{Secret, InstanceSalt, Line}
 use Rattle.guest_plan.specs.declared.plan.Plan.{Plan}
-use Rattle.guest_plan.specs.Items.{host_number, uuid_of, measure_of, secret_of, instance_salt_of, instance_of, blob_of, file_of, write_of, writedir_of, apk_fields, places_of, apk_fixed_of, apk_first_of, apk_kept_of, apk_by, apk_of, item_of}
+use Rattle.guest_plan.specs.Items.{host_number, uuid_of, measure_of, secret_of, instance_salt_of, instance_of, blob_of, file_of, named_file_of, write_of, writedir_of, apk_fields, places_of, apk_fixed_of, apk_first_of, apk_kept_of, apk_by, apk_of, item_of}
 use Rattle.guest_plan.specs.Plans.{Known, nothing, add, missing, plan_header, plan_of, known, Tells}
-use Rattle.guest_plan.specs.Spelling.{IsDevice, IsMeasuredBy, IsHostNumber, IsServed, IsItem, measure_text, how_text, served_text, item_text, IsPlan}
+use Rattle.guest_plan.specs.Spelling.{IsDevice, IsMeasuredBy, IsHostNumber, IsServed, IsItem, measure_text, how_text, line_text, item_text, IsPlan}
 use Rattle.guest_plan.proofs.Uuids.{uuid_takes, uuid_again, guid_printed}
 
 ok_is : {A : Type 0} (x y : A) → let r : Result A PlanKind = Ok x in r ≡ Ok y → x ≡ y
@@ -70,26 +70,26 @@ measure_again m h = rw (number_again 2 1048577 m.blocks (omega arith) h.low h.hi
 
 -- ---- what is read is spelled so
 
+-- a word and the digits of n bytes
+hexed_takes : (line word : List ℕ) (n : ℕ) (make : List ℕ → Item) (item : Item) → first_field line ≡ word → (two_fields line >>= λ f. hex_of n f.1 >>= λ bytes. Ok (make bytes)) ≡ Ok item
+    → (bytes : List ℕ) × IsHexed n bytes × (line ≡ (word then encode_lower bytes)) × (make bytes ≡ item)
+hexed_takes line word n make item first e =
+    let a = bind_ok (two_fields line) (λ f. hex_of n f.1 >>= λ bytes. Ok (make bytes)) item e in
+    let b = bind_ok (hex_of n a.0.1) (λ bytes. Ok (make bytes)) item a.2 in
+    let f = two_take line a.0 a.1 in
+    let h = hex_takes n a.0.1 b.0 b.1 in
+    (b.0, h.1, f.0 ∙ ap (λ (w : List ℕ). w then a.0.1) (sym f.1 ∙ first) ∙ ap (λ (t : List ℕ). word then t) h.0, ok_is (make b.0) item b.2)
+
 secret_takes : (line : List ℕ) (item : Item) → first_field line ≡ codes "secret" → secret_of line ≡ Ok item → Is line item
 unfolding secret_of
-secret_takes line item word e =
-    let a = bind_ok (two_fields line) (λ f. hex_of 32 f.1 >>= λ bytes. Ok (Secret bytes)) item e in
-    let b = bind_ok (hex_of 32 a.0.1) (λ bytes. Ok (Secret bytes)) item a.2 in
-    let f = two_take line a.0 a.1 in
-    let h = hex_takes 32 a.0.1 b.0 b.1 in
-    subst (Is line) (ok_is (Secret b.0) item b.2) (h.1, f.0 ∙ ap (λ (w : List ℕ). w then a.0.1) (sym f.1 ∙ word) ∙ ap (λ (t : List ℕ). codes "secret" then t) h.0)
+secret_takes line item word e = let is = hexed_takes line (codes "secret") 32 Secret item word e in subst (Is line) is.3 (is.1, is.2)
 
 instance_salt_takes : (line : List ℕ) (item : Item) → first_field line ≡ codes "salt" → instance_salt_of line ≡ Ok item → Is line item
 unfolding instance_salt_of
-instance_salt_takes line item word e =
-    let a = bind_ok (two_fields line) (λ f. hex_of 64 f.1 >>= λ bytes. Ok (InstanceSalt bytes)) item e in
-    let b = bind_ok (hex_of 64 a.0.1) (λ bytes. Ok (InstanceSalt bytes)) item a.2 in
-    let f = two_take line a.0 a.1 in
-    let h = hex_takes 64 a.0.1 b.0 b.1 in
-    subst (Is line) (ok_is (InstanceSalt b.0) item b.2) (h.1, f.0 ∙ ap (λ (w : List ℕ). w then a.0.1) (sym f.1 ∙ word) ∙ ap (λ (t : List ℕ). codes "salt" then t) h.0)
+instance_salt_takes line item word e = let is = hexed_takes line (codes "salt") 64 InstanceSalt item word e in subst (Is line) is.3 (is.1, is.2)
 
 abbrev instance_item : ℕ → List ℕ → Item
-instance_item disk part = Line (served.Instance disk part)
+instance_item disk part = Line (planned.Instance disk part)
 
 instance_takes : (line : List ℕ) (item : Item) → first_field line ≡ codes "instance" → instance_of line ≡ Ok item → Is line item
 unfolding instance_of
@@ -108,7 +108,7 @@ instance_takes line item word e =
     subst (Is line) (ok_is (instance_item b.0 c.0) item c.2) ((disk.2, part.1), spelled)
 
 abbrev blob : ℕ → Measure → Item
-blob file m = Line (served.Blob file m)
+blob file m = Line (planned.Blob file m)
 
 blob_takes : (line : List ℕ) (item : Item) → first_field line ≡ codes "blob" → blob_of line ≡ Ok item → Is line item
 unfolding blob_of
@@ -127,7 +127,7 @@ blob_takes line item word e =
     subst (Is line) (ok_is (blob b.0 c.0) item c.2) ((file.2, m.device), spelled)
 
 abbrev file_item : List ℕ → ℕ → List ℕ → Item
-file_item name file digest = Line (served.File name file (record { 0 = digest }))
+file_item name file digest = Line (planned.File name file (record { 0 = digest }))
 
 file_takes : (line : List ℕ) (item : Item) → first_field line ≡ codes "file" → file_of line ≡ Ok item → Is line item
 unfolding file_of
@@ -148,43 +148,53 @@ file_takes line item word e =
     ∙ ap (λ (t : List ℕ). codes "file" then b.0 then decimal c.0 then t) digest.0 in
     subst (Is line) (ok_is (file_item b.0 c.0 d.0) item d.2) ((name.1, file.2, digest.1), spelled)
 
-abbrev write_item : List ℕ → ℕ → Item
-write_item name file = Line (served.Write name file)
+abbrev NamedFile : Type 0
+NamedFile = List ℕ × ℕ
+
+-- what a line is, behind its word, that reads as this name and number
+record HasNamed (line word : List ℕ) (f : NamedFile) : Type 0 where
+  name : is_name f.0 ≡ true
+  number : IsHostNumber f.1
+  whole : line ≡ (word then f.0 then decimal f.1)
+
+named_takes : (line word : List ℕ) (f : NamedFile) → first_field line ≡ word → named_file_of line ≡ Ok f → HasNamed line word f
+unfolding named_file_of
+named_takes line word p first e =
+    let a = bind_ok (three_fields line) (λ f. name_of f.1 >>= λ name. host_number f.2 >>= λ file. Ok (name, file)) p e in
+    let f = a.0 in
+    let b = bind_ok (name_of f.1) (λ name. host_number f.2 >>= λ file. Ok (name, file)) p a.2 in
+    let c = bind_ok (host_number f.2) (λ file. Ok (b.0, file)) p b.2 in
+    let h = three_take line f a.1 in
+    let name = name_takes f.1 b.0 b.1 in
+    let file = number_takes 0 2147483648 f.2 c.0 (omega arith) c.1 in
+    let made : NamedFile = (b.0, c.0) in
+    subst (HasNamed line word) (ok_is made p c.2) (record {
+      name = name.1;
+      number = file.2;
+      whole = h.0 ∙ ap (λ (w : List ℕ). w then f.1 then f.2) (sym h.1 ∙ first)
+          ∙ ap (λ (t : List ℕ). word then t then f.2) name.0
+          ∙ ap (λ (t : List ℕ). word then b.0 then t) file.0;
+    })
+
+abbrev write_item : NamedFile → Item
+write_item f = Line (planned.Write f.0 f.1)
 
 write_takes : (line : List ℕ) (item : Item) → first_field line ≡ codes "write" → write_of line ≡ Ok item → Is line item
 unfolding write_of
 write_takes line item word e =
-    let a = bind_ok (three_fields line) (λ f. name_of f.1 >>= λ name. host_number f.2 >>= λ file. Ok (write_item name file)) item e in
-    let f = a.0 in
-    let b = bind_ok (name_of f.1) (λ name. host_number f.2 >>= λ file. Ok (write_item name file)) item a.2 in
-    let c = bind_ok (host_number f.2) (λ file. Ok (write_item b.0 file)) item b.2 in
-    let h = three_take line f a.1 in
-    let name = name_takes f.1 b.0 b.1 in
-    let file = number_takes 0 2147483648 f.2 c.0 (omega arith) c.1 in
-    let spelled : line ≡ item_text (write_item b.0 c.0) =
-    h.0 ∙ ap (λ (w : List ℕ). w then f.1 then f.2) (sym h.1 ∙ word)
-    ∙ ap (λ (t : List ℕ). codes "write" then t then f.2) name.0
-    ∙ ap (λ (t : List ℕ). codes "write" then b.0 then t) file.0 in
-    subst (Is line) (ok_is (write_item b.0 c.0) item c.2) ((name.1, file.2), spelled)
+    let a = bind_ok (named_file_of line) (λ f. Ok (write_item f)) item e in
+    let h = named_takes line (codes "write") a.0 word a.1 in
+    subst (Is line) (ok_is (write_item a.0) item a.2) ((h.name, h.number), h.whole)
 
-abbrev writedir_item : List ℕ → ℕ → Item
-writedir_item name file = Line (served.WriteDir name file)
+abbrev writedir_item : NamedFile → Item
+writedir_item f = Line (planned.WriteDir f.0 f.1)
 
 writedir_takes : (line : List ℕ) (item : Item) → first_field line ≡ codes "writedir" → writedir_of line ≡ Ok item → Is line item
 unfolding writedir_of
 writedir_takes line item word e =
-    let a = bind_ok (three_fields line) (λ f. name_of f.1 >>= λ name. host_number f.2 >>= λ file. Ok (writedir_item name file)) item e in
-    let f = a.0 in
-    let b = bind_ok (name_of f.1) (λ name. host_number f.2 >>= λ file. Ok (writedir_item name file)) item a.2 in
-    let c = bind_ok (host_number f.2) (λ file. Ok (writedir_item b.0 file)) item b.2 in
-    let h = three_take line f a.1 in
-    let name = name_takes f.1 b.0 b.1 in
-    let file = number_takes 0 2147483648 f.2 c.0 (omega arith) c.1 in
-    let spelled : line ≡ item_text (writedir_item b.0 c.0) =
-    h.0 ∙ ap (λ (w : List ℕ). w then f.1 then f.2) (sym h.1 ∙ word)
-    ∙ ap (λ (t : List ℕ). codes "writedir" then t then f.2) name.0
-    ∙ ap (λ (t : List ℕ). codes "writedir" then b.0 then t) file.0 in
-    subst (Is line) (ok_is (writedir_item b.0 c.0) item c.2) ((name.1, file.2), spelled)
+    let a = bind_ok (named_file_of line) (λ f. Ok (writedir_item f)) item e in
+    let h = named_takes line (codes "writedir") a.0 word a.1 in
+    subst (Is line) (ok_is (writedir_item a.0) item a.2) ((h.name, h.number), h.whole)
 
 -- ---- APK devices
 
@@ -248,7 +258,7 @@ unfolding places_of
 places_again disk apk idsig n a i = rw (number_again 0 2147483648 disk (omega arith) (omega arith) n, part_again apk a, part_again idsig i) refl
 
 abbrev apk_item : Places → How → Item
-apk_item p how = Line (served.Apk p.0 p.1 p.2 how)
+apk_item p how = Line (planned.Apk p.0 p.1 p.2 how)
 
 -- what the fields of an APK's line are that read as this item
 abbrev IsApk : Four → Item → Type 0
@@ -406,17 +416,19 @@ file_again name file digest h =
     let t : List ℕ = encode_lower digest in
     rw (first_again (codes "file") (name then d then t) refl, four_again (codes "file") name d t refl (free name (name_free name h.0)) (free d (number_free file h.1)) (free t (hex_printed digest h.2.1)), name_again name h.0, number_again 0 2147483648 file (omega arith) (omega arith) h.1, hex_again 32 digest h.2) refl
 
-write_again : (name : List ℕ) (file : ℕ) → IsItem (write_item name file) → item_of (item_text (write_item name file)) ≡ Ok (write_item name file)
-unfolding item_of write_of
-write_again name file h =
+named_again : (word name : List ℕ) (file : ℕ) → Free word → is_name name ≡ true → IsHostNumber file → let f : NamedFile = (name, file) in named_file_of (word then name then decimal file) ≡ Ok f
+unfolding named_file_of
+named_again word name file plain n h =
     let d : List ℕ = decimal file in
-    rw (first_again (codes "write") (name then d) refl, three_again (codes "write") name d refl (free name (name_free name h.0)) (free d (number_free file h.1)), name_again name h.0, number_again 0 2147483648 file (omega arith) (omega arith) h.1) refl
+    rw (three_again word name d plain (free name (name_free name n)) (free d (number_free file h)), name_again name n, number_again 0 2147483648 file (omega arith) (omega arith) h) refl
 
-writedir_again : (name : List ℕ) (file : ℕ) → IsItem (writedir_item name file) → item_of (item_text (writedir_item name file)) ≡ Ok (writedir_item name file)
+write_again : (name : List ℕ) (file : ℕ) → IsItem (write_item (name, file)) → item_of (item_text (write_item (name, file))) ≡ Ok (write_item (name, file))
+unfolding item_of write_of
+write_again name file h = rw (first_again (codes "write") (name then decimal file) refl, named_again (codes "write") name file refl h.0 h.1) refl
+
+writedir_again : (name : List ℕ) (file : ℕ) → IsItem (writedir_item (name, file)) → item_of (item_text (writedir_item (name, file))) ≡ Ok (writedir_item (name, file))
 unfolding item_of writedir_of
-writedir_again name file h =
-    let d : List ℕ = decimal file in
-    rw (first_again (codes "writedir") (name then d) refl, three_again (codes "writedir") name d refl (free name (name_free name h.0)) (free d (number_free file h.1)), name_again name h.0, number_again 0 2147483648 file (omega arith) (omega arith) h.1) refl
+writedir_again name file h = rw (first_again (codes "writedir") (name then decimal file) refl, named_again (codes "writedir") name file refl h.0 h.1) refl
 
 apk_fields_again : (w d a i rest : List ℕ) → Free w → Free d → Free a → Free i → apk_fields (w then d then a then i then rest) ≡ Ok (d, a, i, rest)
 unfolding apk_fields
@@ -465,12 +477,12 @@ apk_again disk apk idsig how h =
 item_again : (item : Item) → IsItem item → item_of (item_text item) ≡ Ok item
 item_again (Secret bytes) h = secret_again bytes h
 item_again (InstanceSalt bytes) h = instance_salt_again bytes h
-item_again (Line (served.Instance disk part)) h = instance_again disk part h
-item_again (Line (served.Blob file m)) h = blob_again file m h
-item_again (Line (served.Apk disk apk idsig how)) h = apk_again disk apk idsig how h
-item_again (Line (served.File name file digest)) h = file_again name file digest.0 h
-item_again (Line (served.Write name file)) h = write_again name file h
-item_again (Line (served.WriteDir name file)) h = writedir_again name file h
+item_again (Line (planned.Instance disk part)) h = instance_again disk part h
+item_again (Line (planned.Blob file m)) h = blob_again file m h
+item_again (Line (planned.Apk disk apk idsig how)) h = apk_again disk apk idsig how h
+item_again (Line (planned.File name file digest)) h = file_again name file digest.0 h
+item_again (Line (planned.Write name file)) h = write_again name file h
+item_again (Line (planned.WriteDir name file)) h = writedir_again name file h
 
 -- ---- no line feed
 
@@ -487,22 +499,22 @@ how_one (Kept g) h = let u : List ℕ = guid_text g.0 in then_one (codes "record
 item_one : (item : Item) → IsItem item → OneLine (item_text item)
 item_one (Secret bytes) h = let t : List ℕ = encode_lower bytes in then_one (codes "secret") t refl (one t (hex_printed bytes h.1))
 item_one (InstanceSalt bytes) h = let t : List ℕ = encode_lower bytes in then_one (codes "salt") t refl (one t (hex_printed bytes h.1))
-item_one (Line (served.Instance disk part)) h =
+item_one (Line (planned.Instance disk part)) h =
     let d : List ℕ = decimal disk in
     then_one (codes "instance") (d then part) refl (then_one d part (one d (number_free disk h.0)) (one part (part_free part h.1)))
-item_one (Line (served.Blob file m)) h =
+item_one (Line (planned.Blob file m)) h =
     let d : List ℕ = decimal file in
     then_one (codes "blob") (d then measure_text m) refl (then_one d (measure_text m) (one d (number_free file h.0)) (measure_one m h.1))
-item_one (Line (served.Apk disk apk idsig how)) h =
+item_one (Line (planned.Apk disk apk idsig how)) h =
     let d : List ℕ = decimal disk in
     then_one (codes "apk") (d then apk then idsig then how_text how) refl (then_one d (apk then idsig then how_text how) (one d (number_free disk h.0)) (then_one apk (idsig then how_text how) (one apk (part_free apk h.1)) (then_one idsig (how_text how) (one idsig (part_free idsig h.2)) (how_one how h.3))))
-item_one (Line (served.File name file digest)) h =
+item_one (Line (planned.File name file digest)) h =
     let d : List ℕ = decimal file in let t : List ℕ = encode_lower digest.0 in
     then_one (codes "file") (name then d then t) refl (then_one name (d then t) (one name (name_free name h.0)) (then_one d t (one d (number_free file h.1)) (one t (hex_printed digest.0 h.2.1))))
-item_one (Line (served.Write name file)) h =
+item_one (Line (planned.Write name file)) h =
     let d : List ℕ = decimal file in
     then_one (codes "write") (name then d) refl (then_one name d (one name (name_free name h.0)) (one d (number_free file h.1)))
-item_one (Line (served.WriteDir name file)) h =
+item_one (Line (planned.WriteDir name file)) h =
     let d : List ℕ = decimal file in
     then_one (codes "writedir") (name then d) refl (then_one name d (one name (name_free name h.0)) (one d (number_free file h.1)))
 

@@ -7,7 +7,7 @@ use Rattle.guest_plan.specs.declared.plan.PlanLine.{PlanLine}
 use Rattle.guest_plan.specs.declared.plan.Item.{Item}
 use Rattle.guest_plan.specs.declared.plan.Item.TheVariants.{Line}
 use Rattle.guest_plan.specs.Plans.{Known}
-use Rattle.guest_plan.specs.Spelling.{served_text, item_text, plan_text, secret_items, salt_items, items_of, IsWritten, IsPlan}
+use Rattle.guest_plan.specs.Spelling.{line_text, item_text, plan_text, secret_items, salt_items, items_of, IsWritten, IsPlan}
 
 abbrev texts : List Item → List ℕ
 texts items = flat_map (λ i. ended (item_text i)) items
@@ -20,21 +20,21 @@ texts_append : (a b : List Item) → texts (a ++ b) ≡ texts a ++ texts b
 texts_append [] b = refl
 texts_append (i ∷ a) b = ap (λ (x : List ℕ). ended (item_text i) ++ x) (texts_append a b) ∙ sym (append_assoc (ended (item_text i)) (texts a) (texts b))
 
-texts_lines : (lines : List PlanLine) → texts (map Line lines) ≡ flat_map (λ l. ended (served_text l)) lines
+texts_lines : (lines : List PlanLine) → texts (map Line lines) ≡ flat_map (λ l. ended (line_text l)) lines
 texts_lines [] = refl
-texts_lines (l ∷ lines) = ap (λ (x : List ℕ). ended (served_text l) ++ x) (texts_lines lines)
+texts_lines (l ∷ lines) = ap (λ (x : List ℕ). ended (line_text l) ++ x) (texts_lines lines)
 
 regrouped : (a b c d e : List ℕ) → (((a ++ b) ++ c) ++ d) ++ e ≡ a ++ (b ++ (c ++ (d ++ e)))
 regrouped a b c d e = simp append_assoc
 
-pub whole_text : (out : List ℕ) (k : Known) → ((out ++ codes "plan 1\n") ++ texts (secret_items k.secret)) ++ texts (salt_items k.salt) ++ flat_map (λ l. ended (served_text l)) k.lines ≡ out ++ plan_text k
+pub whole_text : (out : List ℕ) (k : Known) → ((out ++ codes "plan 1\n") ++ texts (secret_items k.secret)) ++ texts (salt_items k.salt) ++ flat_map (λ l. ended (line_text l)) k.lines ≡ out ++ plan_text k
 whole_text out k =
     let s = secret_items k.secret in
     let t = salt_items k.salt in
     let l = map Line k.lines in
-    let parts : flat_map ended (map item_text (items_of k)) ≡ texts s ++ (texts t ++ flat_map (λ x. ended (served_text x)) k.lines) =
+    let parts : flat_map ended (map item_text (items_of k)) ≡ texts s ++ (texts t ++ flat_map (λ x. ended (line_text x)) k.lines) =
     texts_map (items_of k) ∙ texts_append s (t ++ l) ∙ ap (λ (x : List ℕ). texts s ++ x) (texts_append t l ∙ ap (λ (x : List ℕ). texts t ++ x) (texts_lines k.lines)) in
-    let rest : List ℕ = flat_map (λ x. ended (served_text x)) k.lines in
+    let rest : List ℕ = flat_map (λ x. ended (line_text x)) k.lines in
     regrouped out (codes "plan 1\n") (texts s) (texts t) rest ∙ ap (λ (x : List ℕ). out ++ (codes "plan 1\n" ++ x)) (sym parts)
 
 pub written_is : (k : Known) → IsWritten k → IsPlan (plan_text k) k

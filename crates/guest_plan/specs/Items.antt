@@ -9,7 +9,7 @@ use Rattle.text_lines.specs.declared.kinds.PlanKind.TheVariants as kinds
 use Rattle.text_lines.specs.Fields.{◌>>=◌, first_field, field, last_field, two_fields, three_fields, four_fields, five_fields}
 use Rattle.text_lines.specs.Values.{number_in, hex_of, page_salt, name_of, part_of}
 use Rattle.guest_plan.specs.declared.plan.How.TheVariants.{Fixed, First, Kept}
-use Rattle.guest_plan.specs.declared.plan.PlanLine.TheVariants as served
+use Rattle.guest_plan.specs.declared.plan.PlanLine.TheVariants as planned
 use Rattle.guest_plan.specs.declared.plan.Item.{Item}
 use Rattle.guest_plan.specs.declared.plan.Item.TheVariants.{Secret, InstanceSalt, Line}
 
@@ -50,14 +50,14 @@ instance_of line = do
   f ← three_fields line
   disk ← host_number f.1
   part ← part_of f.2
-  Ok (Line (served.Instance disk part))
+  Ok (Line (planned.Instance disk part))
 
 unfoldable pub blob_of : List ℕ → Result Item PlanKind
 blob_of line = do
   f ← five_fields line
   file ← host_number f.1
   measure ← measure_of f.2 f.3 f.4
-  Ok (Line (served.Blob file measure))
+  Ok (Line (planned.Blob file measure))
 
 unfoldable pub file_of : List ℕ → Result Item PlanKind
 file_of line = do
@@ -65,21 +65,25 @@ file_of line = do
   name ← name_of f.1
   file ← host_number f.2
   digest ← hex_of 32 f.3
-  Ok (Line (served.File name file (record { 0 = digest })))
+  Ok (Line (planned.File name file (record { 0 = digest })))
+
+-- a name and a file's number
+unfoldable pub named_file_of : List ℕ → Result (List ℕ × ℕ) PlanKind
+named_file_of line = do
+  f ← three_fields line
+  name ← name_of f.1
+  file ← host_number f.2
+  Ok (name, file)
 
 unfoldable pub write_of : List ℕ → Result Item PlanKind
 write_of line = do
-  f ← three_fields line
-  name ← name_of f.1
-  file ← host_number f.2
-  Ok (Line (served.Write name file))
+  f ← named_file_of line
+  Ok (Line (planned.Write f.0 f.1))
 
 unfoldable pub writedir_of : List ℕ → Result Item PlanKind
 writedir_of line = do
-  f ← three_fields line
-  name ← name_of f.1
-  file ← host_number f.2
-  Ok (Line (served.WriteDir name file))
+  f ← named_file_of line
+  Ok (Line (planned.WriteDir f.0 f.1))
 
 -- ---- an APK device: four fields and what stands behind them decide how it is measured
 
@@ -105,20 +109,20 @@ apk_fixed_of f = do
   g ← four_fields f.3
   p ← places_of f.0 f.1 f.2
   measure ← measure_of g.1 g.2 g.3
-  Ok (Line (served.Apk p.0 p.1 p.2 (Fixed measure)))
+  Ok (Line (planned.Apk p.0 p.1 p.2 (Fixed measure)))
 
 unfoldable pub apk_first_of : (List ℕ × List ℕ × List ℕ × List ℕ) → Result Item PlanKind
 apk_first_of f = do
   g ← last_field f.3
   p ← places_of f.0 f.1 f.2
-  Ok (Line (served.Apk p.0 p.1 p.2 First))
+  Ok (Line (planned.Apk p.0 p.1 p.2 First))
 
 unfoldable pub apk_kept_of : (List ℕ × List ℕ × List ℕ × List ℕ) → Result Item PlanKind
 apk_kept_of f = do
   g ← two_fields f.3
   p ← places_of f.0 f.1 f.2
   guid ← uuid_of g.1
-  Ok (Line (served.Apk p.0 p.1 p.2 (Kept guid)))
+  Ok (Line (planned.Apk p.0 p.1 p.2 (Kept guid)))
 
 unfoldable pub apk_by : (List ℕ × List ℕ × List ℕ × List ℕ) → Result Item PlanKind
 apk_by f =

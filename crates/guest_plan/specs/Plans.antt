@@ -11,7 +11,7 @@ use Rattle.text_lines.specs.Lists.{completed}
 use Rattle.guest_plan.specs.declared.plan.How.{How}
 use Rattle.guest_plan.specs.declared.plan.How.TheVariants.{Fixed, First, Kept}
 use Rattle.guest_plan.specs.declared.plan.PlanLine.{PlanLine}
-use Rattle.guest_plan.specs.declared.plan.PlanLine.TheVariants as served
+use Rattle.guest_plan.specs.declared.plan.PlanLine.TheVariants as planned
 use Rattle.guest_plan.specs.declared.plan.Item.{Item}
 use Rattle.guest_plan.specs.declared.plan.Item.TheVariants.{Secret, InstanceSalt, Line}
 use Rattle.guest_plan.specs.declared.plan.Plan.{Plan}
@@ -33,20 +33,20 @@ nothing = record { secret = None; salt = None; lines = []; numbers = [] }
 -- ---- what may stand once
 
 abbrev pub name_in : PlanLine → Option (List ℕ)
-name_in (served.File name file digest) = Some name
-name_in (served.Write name file) = Some name
-name_in (served.WriteDir name file) = Some name
+name_in (planned.File name file digest) = Some name
+name_in (planned.Write name file) = Some name
+name_in (planned.WriteDir name file) = Some name
 name_in line = None
 
 abbrev pub file_in : PlanLine → Option ℕ
-file_in (served.Blob file measure) = Some file
-file_in (served.File name file digest) = Some file
-file_in (served.Write name file) = Some file
-file_in (served.WriteDir name file) = Some file
+file_in (planned.Blob file measure) = Some file
+file_in (planned.File name file digest) = Some file
+file_in (planned.Write name file) = Some file
+file_in (planned.WriteDir name file) = Some file
 file_in line = None
 
 abbrev pub is_instance : PlanLine → Bool
-is_instance (served.Instance disk part) = true
+is_instance (planned.Instance disk part) = true
 is_instance line = false
 
 abbrev pub same_name : Option (List ℕ) → Option (List ℕ) → Bool
@@ -78,9 +78,9 @@ is_kept (Kept g) = true
 
 -- an instance needs the secret and the salt, and a record the instance
 abbrev pub lacks : Bool → Bool → PlanLine → Bool
-lacks keyed held (served.Instance disk part) = not keyed
-lacks keyed held (served.Apk disk apk idsig how) = is_kept how && not held
-lacks keyed held line = false
+lacks keyed there (planned.Instance disk part) = not keyed
+lacks keyed there (planned.Apk disk apk idsig how) = is_kept how && not there
+lacks keyed there line = false
 
 abbrev pub has_keys : Known → Bool
 has_keys k = is_some k.secret && is_some k.salt
@@ -90,9 +90,9 @@ has_instance k = list_any is_instance k.lines
 
 -- the number of the first line that lacks something
 abbrev pub first_lacking : Bool → Bool → List PlanLine → List ℕ → Option ℕ
-first_lacking keyed held [] numbers = None
-first_lacking keyed held (l ∷ lines) [] = None
-first_lacking keyed held (l ∷ lines) (n ∷ numbers) = if lacks keyed held l then Some n else first_lacking keyed held lines numbers
+first_lacking keyed there [] numbers = None
+first_lacking keyed there (l ∷ lines) [] = None
+first_lacking keyed there (l ∷ lines) (n ∷ numbers) = if lacks keyed there l then Some n else first_lacking keyed there lines numbers
 
 abbrev pub missing : Known → Option ℕ
 missing k = first_lacking (has_keys k) (has_instance k) k.lines k.numbers

@@ -10,7 +10,7 @@ use Rattle.text_lines.specs.Spelling.{IsHexed, IsSalt, ◌then◌, salt_text, sp
 use Rattle.guest_plan.specs.declared.plan.How.{How}
 use Rattle.guest_plan.specs.declared.plan.How.TheVariants.{Fixed, First, Kept}
 use Rattle.guest_plan.specs.declared.plan.PlanLine.{PlanLine}
-use Rattle.guest_plan.specs.declared.plan.PlanLine.TheVariants as served
+use Rattle.guest_plan.specs.declared.plan.PlanLine.TheVariants as planned
 use Rattle.guest_plan.specs.declared.plan.Item.{Item}
 use Rattle.guest_plan.specs.declared.plan.Item.TheVariants.{Secret, InstanceSalt, Line}
 use Rattle.guest_plan.specs.Plans.{Known, nothing, add, missing, plan_header}
@@ -33,12 +33,12 @@ abbrev pub IsHostNumber : ℕ → Type 0
 IsHostNumber n = n < 2147483648
 
 abbrev pub IsServed : PlanLine → Type 0
-IsServed (served.Instance disk part) = IsHostNumber disk × (is_part part ≡ true)
-IsServed (served.Blob file m) = IsHostNumber file × IsDevice m
-IsServed (served.Apk disk apk idsig how) = IsHostNumber disk × (is_part apk ≡ true) × (is_part idsig ≡ true) × IsMeasuredBy how
-IsServed (served.File name file digest) = (is_name name ≡ true) × IsHostNumber file × IsHexed 32 digest.0
-IsServed (served.Write name file) = (is_name name ≡ true) × IsHostNumber file
-IsServed (served.WriteDir name file) = (is_name name ≡ true) × IsHostNumber file
+IsServed (planned.Instance disk part) = IsHostNumber disk × (is_part part ≡ true)
+IsServed (planned.Blob file m) = IsHostNumber file × IsDevice m
+IsServed (planned.Apk disk apk idsig how) = IsHostNumber disk × (is_part apk ≡ true) × (is_part idsig ≡ true) × IsMeasuredBy how
+IsServed (planned.File name file digest) = (is_name name ≡ true) × IsHostNumber file × IsHexed 32 digest.0
+IsServed (planned.Write name file) = (is_name name ≡ true) × IsHostNumber file
+IsServed (planned.WriteDir name file) = (is_name name ≡ true) × IsHostNumber file
 
 abbrev pub IsItem : Item → Type 0
 IsItem (Secret bytes) = IsHexed 32 bytes
@@ -56,18 +56,18 @@ how_text (Fixed m) = codes "fixed" then measure_text m
 how_text First = codes "first"
 how_text (Kept g) = codes "record" then guid_text g.0
 
-abbrev pub served_text : PlanLine → List ℕ
-served_text (served.Instance disk part) = codes "instance" then decimal disk then part
-served_text (served.Blob file m) = codes "blob" then decimal file then measure_text m
-served_text (served.Apk disk apk idsig how) = codes "apk" then decimal disk then apk then idsig then how_text how
-served_text (served.File name file digest) = codes "file" then name then decimal file then encode_lower digest.0
-served_text (served.Write name file) = codes "write" then name then decimal file
-served_text (served.WriteDir name file) = codes "writedir" then name then decimal file
+abbrev pub line_text : PlanLine → List ℕ
+line_text (planned.Instance disk part) = codes "instance" then decimal disk then part
+line_text (planned.Blob file m) = codes "blob" then decimal file then measure_text m
+line_text (planned.Apk disk apk idsig how) = codes "apk" then decimal disk then apk then idsig then how_text how
+line_text (planned.File name file digest) = codes "file" then name then decimal file then encode_lower digest.0
+line_text (planned.Write name file) = codes "write" then name then decimal file
+line_text (planned.WriteDir name file) = codes "writedir" then name then decimal file
 
 abbrev pub item_text : Item → List ℕ
 item_text (Secret bytes) = codes "secret" then encode_lower bytes
 item_text (InstanceSalt bytes) = codes "salt" then encode_lower bytes
-item_text (Line l) = served_text l
+item_text (Line l) = line_text l
 
 -- ---- a text
 

@@ -9,27 +9,35 @@ use Rattle.guest_plan.specs.declared.store.StoreLine.{StoreLine}
 use Rattle.guest_plan.specs.declared.store.StoreLine.TheVariants as stored
 use Rattle.guest_plan.specs.Items.{host_number}
 
+-- a number and the name of a file in the folder
+unfoldable pub numbered_of : List ℕ → List ℕ → Result (ℕ × List ℕ) PlanKind
+numbered_of number name = do
+  n ← host_number number
+  file ← folder_name_of name
+  Ok (n, file)
+
+-- the same behind the word of a line
+unfoldable pub numbered_line_of : List ℕ → Result (ℕ × List ℕ) PlanKind
+numbered_line_of line = do
+  f ← three_fields line
+  numbered_of f.1 f.2
+
 unfoldable pub disk_of : List ℕ → Result StoreLine PlanKind
 disk_of line = do
-  f ← three_fields line
-  n ← host_number f.1
-  file ← folder_name_of f.2
-  Ok (stored.Disk n file)
+  l ← numbered_line_of line
+  Ok (stored.Disk l.0 l.1)
 
 unfoldable pub composite_of : List ℕ → Result StoreLine PlanKind
 composite_of line = do
-  f ← three_fields line
-  n ← host_number f.1
-  file ← folder_name_of f.2
-  Ok (stored.Composite n file)
+  l ← numbered_line_of line
+  Ok (stored.Composite l.0 l.1)
 
 unfoldable pub verity_of : List ℕ → Result StoreLine PlanKind
 verity_of line = do
   f ← four_fields line
-  n ← host_number f.1
-  file ← folder_name_of f.2
+  l ← numbered_of f.1 f.2
   salt ← page_salt f.3
-  Ok (stored.Verity n file salt)
+  Ok (stored.Verity l.0 l.1 salt)
 
 unfoldable pub empty_of : List ℕ → Result StoreLine PlanKind
 empty_of line = do
@@ -45,15 +53,13 @@ dir_of line = do
 
 unfoldable pub keep_disk_of : List ℕ → List ℕ → Result StoreLine PlanKind
 keep_disk_of number name = do
-  n ← host_number number
-  file ← folder_name_of name
-  Ok (stored.KeepDisk n file)
+  l ← numbered_of number name
+  Ok (stored.KeepDisk l.0 l.1)
 
 unfoldable pub keep_file_of : List ℕ → List ℕ → Result StoreLine PlanKind
 keep_file_of number name = do
-  n ← host_number number
-  file ← folder_name_of name
-  Ok (stored.KeepFile n file)
+  l ← numbered_of number name
+  Ok (stored.KeepFile l.0 l.1)
 
 -- the first of the fields says what is kept
 unfoldable pub keep_by : (List ℕ × List ℕ × List ℕ × List ℕ) → Result StoreLine PlanKind

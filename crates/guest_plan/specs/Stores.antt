@@ -72,8 +72,8 @@ kept_file (stored.KeepFile n file) = Some n
 kept_file line = None
 
 -- the line adds what the other one keeps
-abbrev pub serves_keep : StoreLine → StoreLine → Bool
-serves_keep keep l = same_file (kept_disk keep) (disk_in l) || same_file (kept_file keep) (stored_in l)
+abbrev pub adds_kept : StoreLine → StoreLine → Bool
+adds_kept keep l = same_file (kept_disk keep) (disk_in l) || same_file (kept_file keep) (stored_in l)
 
 abbrev pub is_keep : StoreLine → Bool
 is_keep (stored.KeepDisk n file) = true
@@ -82,7 +82,7 @@ is_keep line = false
 
 -- a kept disk or file that no line adds
 abbrev pub store_lacks : List StoreLine → StoreLine → Bool
-store_lacks lines l = if is_keep l then not (list_any (serves_keep l) lines) else false
+store_lacks lines l = if is_keep l then not (list_any (adds_kept l) lines) else false
 
 -- the number of the first line that lacks something, the first of these being n
 abbrev pub first_lacking_in : List StoreLine → List StoreLine → ℕ → Option ℕ

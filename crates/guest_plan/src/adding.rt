@@ -11,50 +11,39 @@ fn file_in(line: &PlanLine) -> Option<u32>
     ensures { result ≡ file_in line.now }
 {
     match line {
-        PlanLine::Blob { file, .. } => Some(*file),
-        PlanLine::File { file, .. } => Some(*file),
-        PlanLine::Write { file, .. } => Some(*file),
-        PlanLine::WriteDir { file, .. } => Some(*file),
-        PlanLine::Instance { .. } => None,
-        PlanLine::Apk { .. } => None,
+        PlanLine::Blob { file, .. }
+        | PlanLine::File { file, .. }
+        | PlanLine::Write { file, .. }
+        | PlanLine::WriteDir { file, .. } => Some(*file),
+        PlanLine::Instance { .. } | PlanLine::Apk { .. } => None,
     }
 }
 
 fn name_in(line: &PlanLine) -> Option<&str>
-    ensures { MatchOption result (name_in line.now ≡ None) (λ s. name_in line.now ≡ Some s.now) }
+    ensures { MatchOption result (name_in line.now ≡ None)
+        (λ s. name_in line.now ≡ Some s.now) }
 {
     match line {
-        PlanLine::File { name, .. } => Some(name.as_str()),
-        PlanLine::Write { name, .. } => Some(name.as_str()),
-        PlanLine::WriteDir { name, .. } => Some(name.as_str()),
-        PlanLine::Instance { .. } => None,
-        PlanLine::Blob { .. } => None,
-        PlanLine::Apk { .. } => None,
+        PlanLine::File { name, .. }
+        | PlanLine::Write { name, .. }
+        | PlanLine::WriteDir { name, .. } => Some(name.as_str()),
+        PlanLine::Instance { .. } | PlanLine::Blob { .. } | PlanLine::Apk { .. } => None,
     }
 }
 
 pub(crate) fn is_instance(line: &PlanLine) -> bool
     ensures { result ≡ is_instance line.now }
 {
-    match line {
-        PlanLine::Instance { .. } => true,
-        PlanLine::Blob { .. } => false,
-        PlanLine::Apk { .. } => false,
-        PlanLine::File { .. } => false,
-        PlanLine::Write { .. } => false,
-        PlanLine::WriteDir { .. } => false,
-    }
+    matches!(line, PlanLine::Instance { .. })
 }
 
-fn same_file(a: &PlanLine, b: &PlanLine) -> bool
-    ensures { result ≡ same_file (file_in a.now) (file_in b.now) }
+/// Whether both numbers are there, and the same.
+pub(crate) fn is_same(a: Option<u32>, b: Option<u32>) -> bool
+    ensures { result ≡ same_file a b }
 {
-    match file_in(a) {
-        None => false,
-        Some(file) => match file_in(b) {
-            None => false,
-            Some(other) => file == other,
-        },
+    match (a, b) {
+        (Some(number), Some(other)) => number == other,
+        _ => false,
     }
 }
 
@@ -74,7 +63,7 @@ fn same_name(a: &PlanLine, b: &PlanLine) -> bool
 fn clash(a: &PlanLine, b: &PlanLine) -> bool
     ensures { result ≡ clash a.now b.now }
 {
-    if same_file(a, b) {
+    if is_same(file_in(a), file_in(b)) {
         return true;
     }
     if same_name(a, b) {

@@ -1,7 +1,7 @@
 // What a line of a plan says.
 ghost use Rattle.std.specs.Prelude.{◌≡◌};
 ghost use Rattle.text_lines.specs.Fields.{Gives};
-ghost use Rattle.guest_plan.specs.Items.{uuid_of, measure_of, secret_of, instance_salt_of, instance_of, blob_of, file_of, write_of, writedir_of, apk_fields, places_of, apk_fixed_of, apk_first_of, apk_kept_of, apk_by, apk_of, item_of};
+ghost use Rattle.guest_plan.specs.Items.{uuid_of, measure_of, secret_of, instance_salt_of, instance_of, blob_of, file_of, named_file_of, write_of, writedir_of, apk_fields, places_of, apk_fixed_of, apk_first_of, apk_kept_of, apk_by, apk_of, item_of};
 ghost use Rattle.guest_plan.specs.Apks.{fields_at, places_at};
 
 use crate::apks::{ApkFields, Places};
@@ -11,8 +11,8 @@ use mg_base::{Digest, Guid};
 use sha_tree::Measure;
 use std::alloc::Global;
 use text_lines::{
-    LineFault, PlanKind, field, first_field, five_fields, four_fields, hex32, hex64, last_field,
-    name_of, number_in, page_salt, part_of, three_fields, two_fields,
+    LineFault, Name, PlanKind, field, first_field, five_fields, four_fields, hex32, hex64,
+    last_field, name_of, number_in, page_salt, part_of, three_fields, two_fields,
 };
 
 // Files, directories and disks are numbered below this.
@@ -106,30 +106,30 @@ fn file_of(alloc: Global, line: &[u8]) -> Result<Item, LineFault>
     }))
 }
 
-#[tactic(auto, unfolding(crate::specs::Items::write_of))]
-fn write_of(alloc: Global, line: &[u8]) -> Result<Item, LineFault>
-    ensures { Gives (λ i. i) result (write_of line.now) }
+#[tactic(auto, unfolding(crate::specs::Items::named_file_of))]
+fn named_file_of(alloc: Global, line: &[u8]) -> Result<(Name, u32), LineFault>
+    ensures { Gives (λ f. (f.0, f.1)) result (named_file_of line.now) }
 {
     let (_, name, file) = three_fields(line)?;
     let name = name_of(alloc, name)?;
     let file = number_in(0, NUMBERS, file)?;
-    Ok(Item::Line(PlanLine::Write {
-        name,
-        file: file as u32,
-    }))
+    Ok((name, file as u32))
+}
+
+#[tactic(auto, unfolding(crate::specs::Items::write_of))]
+fn write_of(alloc: Global, line: &[u8]) -> Result<Item, LineFault>
+    ensures { Gives (λ i. i) result (write_of line.now) }
+{
+    let (name, file) = named_file_of(alloc, line)?;
+    Ok(Item::Line(PlanLine::Write { name, file }))
 }
 
 #[tactic(auto, unfolding(crate::specs::Items::writedir_of))]
 fn writedir_of(alloc: Global, line: &[u8]) -> Result<Item, LineFault>
     ensures { Gives (λ i. i) result (writedir_of line.now) }
 {
-    let (_, name, file) = three_fields(line)?;
-    let name = name_of(alloc, name)?;
-    let file = number_in(0, NUMBERS, file)?;
-    Ok(Item::Line(PlanLine::WriteDir {
-        name,
-        file: file as u32,
-    }))
+    let (name, file) = named_file_of(alloc, line)?;
+    Ok(Item::Line(PlanLine::WriteDir { name, file }))
 }
 
 #[tactic(auto, unfolding(crate::specs::Items::apk_fields))]

@@ -1,4 +1,4 @@
-//! The plan, lines of text that say what the guest serves, and the store list, lines that say what
+//! The plan, lines of text that say what the guest boots, and the store list, lines that say what
 //! its host has.
 #![tactic(auto)]
 

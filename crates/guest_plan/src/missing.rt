@@ -28,12 +28,12 @@ fn is_kept(how: &How) -> bool
 }
 
 /// Whether the line lacks something, where the keys are there or an instance is.
-fn lacks(keyed: bool, held: bool, line: &PlanLine) -> bool
-    ensures { result ≡ lacks keyed held line.now }
+fn lacks(keyed: bool, there: bool, line: &PlanLine) -> bool
+    ensures { result ≡ lacks keyed there line.now }
 {
     match line {
         PlanLine::Instance { .. } => !keyed,
-        PlanLine::Apk { how, .. } => is_kept(how) && !held,
+        PlanLine::Apk { how, .. } => is_kept(how) && !there,
         PlanLine::Blob { .. } => false,
         PlanLine::File { .. } => false,
         PlanLine::Write { .. } => false,
@@ -41,12 +41,12 @@ fn lacks(keyed: bool, held: bool, line: &PlanLine) -> bool
     }
 }
 
-fn first_lacking(keyed: bool, held: bool, lines: &[PlanLine], numbers: &[u64]) -> Option<u64>
-    ensures { result ≡ first_lacking keyed held lines.now numbers.now }
+fn first_lacking(keyed: bool, there: bool, lines: &[PlanLine], numbers: &[u64]) -> Option<u64>
+    ensures { result ≡ first_lacking keyed there lines.now numbers.now }
 {
     let count = lines.len().min(numbers.len());
     for i in 0..count {
-        if lacks(keyed, held, &lines[i]) {
+        if lacks(keyed, there, &lines[i]) {
             return Some(numbers[i]);
         }
     }
@@ -58,6 +58,6 @@ pub(crate) fn missing(plan: &Plan) -> Option<u64>
     ensures { result ≡ missing (known plan.now) }
 {
     let keyed = plan.secret.is_some() && plan.salt.is_some();
-    let held = has_instance(&plan.lines);
-    first_lacking(keyed, held, &plan.lines, &plan.numbers)
+    let there = has_instance(&plan.lines);
+    first_lacking(keyed, there, &plan.lines, &plan.numbers)
 }

@@ -2,10 +2,10 @@
 ghost use Rattle.std.specs.Prelude.{◌≡◌, ◌+◌, ◌<◌, ◌^◌, length, List, IfOk, Ok};
 ghost use Rattle.std.specs.List.{list_any};
 ghost use Rattle.guest_plan.specs.declared.store.StoreLine.{StoreLine};
-ghost use Rattle.guest_plan.specs.Plans.{same_file};
 ghost use Rattle.guest_plan.specs.StoreItems.{store_line_of};
-ghost use Rattle.guest_plan.specs.Stores.{disk_in, node_in, stored_in, kept_disk, kept_file, store_clash, serves_keep, is_keep, store_lacks, first_lacking_in, store_missing, store_of, IsStore, TellsStore};
+ghost use Rattle.guest_plan.specs.Stores.{disk_in, node_in, stored_in, kept_disk, kept_file, store_clash, adds_kept, is_keep, store_lacks, first_lacking_in, store_missing, store_of, IsStore, TellsStore};
 
+use crate::adding::is_same;
 use crate::store::{Store, StoreLine};
 use crate::store_items::store_line_of;
 use std::alloc::Global;
@@ -15,13 +15,8 @@ fn disk_in(line: &StoreLine) -> Option<u32>
     ensures { result ≡ disk_in line.now }
 {
     match line {
-        StoreLine::Disk { n, .. } => Some(*n),
-        StoreLine::Composite { n, .. } => Some(*n),
-        StoreLine::Verity { .. } => None,
-        StoreLine::Empty { .. } => None,
-        StoreLine::Dir { .. } => None,
-        StoreLine::KeepDisk { .. } => None,
-        StoreLine::KeepFile { .. } => None,
+        StoreLine::Disk { n, .. } | StoreLine::Composite { n, .. } => Some(*n),
+        _ => None,
     }
 }
 
@@ -29,13 +24,8 @@ fn node_in(line: &StoreLine) -> Option<u32>
     ensures { result ≡ node_in line.now }
 {
     match line {
-        StoreLine::Verity { n, .. } => Some(*n),
-        StoreLine::Empty { n } => Some(*n),
-        StoreLine::Dir { n } => Some(*n),
-        StoreLine::Disk { .. } => None,
-        StoreLine::Composite { .. } => None,
-        StoreLine::KeepDisk { .. } => None,
-        StoreLine::KeepFile { .. } => None,
+        StoreLine::Verity { n, .. } | StoreLine::Empty { n } | StoreLine::Dir { n } => Some(*n),
+        _ => None,
     }
 }
 
@@ -43,13 +33,8 @@ fn stored_in(line: &StoreLine) -> Option<u32>
     ensures { result ≡ stored_in line.now }
 {
     match line {
-        StoreLine::Verity { n, .. } => Some(*n),
-        StoreLine::Empty { n } => Some(*n),
-        StoreLine::Dir { .. } => None,
-        StoreLine::Disk { .. } => None,
-        StoreLine::Composite { .. } => None,
-        StoreLine::KeepDisk { .. } => None,
-        StoreLine::KeepFile { .. } => None,
+        StoreLine::Verity { n, .. } | StoreLine::Empty { n } => Some(*n),
+        _ => None,
     }
 }
 
@@ -58,12 +43,7 @@ fn kept_disk(line: &StoreLine) -> Option<u32>
 {
     match line {
         StoreLine::KeepDisk { n, .. } => Some(*n),
-        StoreLine::Disk { .. } => None,
-        StoreLine::Composite { .. } => None,
-        StoreLine::Verity { .. } => None,
-        StoreLine::Empty { .. } => None,
-        StoreLine::Dir { .. } => None,
-        StoreLine::KeepFile { .. } => None,
+        _ => None,
     }
 }
 
@@ -72,39 +52,17 @@ fn kept_file(line: &StoreLine) -> Option<u32>
 {
     match line {
         StoreLine::KeepFile { n, .. } => Some(*n),
-        StoreLine::Disk { .. } => None,
-        StoreLine::Composite { .. } => None,
-        StoreLine::Verity { .. } => None,
-        StoreLine::Empty { .. } => None,
-        StoreLine::Dir { .. } => None,
-        StoreLine::KeepDisk { .. } => None,
+        _ => None,
     }
 }
 
 fn is_keep(line: &StoreLine) -> bool
     ensures { result ≡ is_keep line.now }
 {
-    match line {
-        StoreLine::KeepDisk { .. } => true,
-        StoreLine::KeepFile { .. } => true,
-        StoreLine::Disk { .. } => false,
-        StoreLine::Composite { .. } => false,
-        StoreLine::Verity { .. } => false,
-        StoreLine::Empty { .. } => false,
-        StoreLine::Dir { .. } => false,
-    }
-}
-
-fn is_same(a: Option<u32>, b: Option<u32>) -> bool
-    ensures { result ≡ same_file a b }
-{
-    match a {
-        None => false,
-        Some(number) => match b {
-            None => false,
-            Some(other) => number == other,
-        },
-    }
+    matches!(
+        line,
+        StoreLine::KeepDisk { .. } | StoreLine::KeepFile { .. }
+    )
 }
 
 fn store_clash(a: &StoreLine, b: &StoreLine) -> bool
@@ -116,8 +74,8 @@ fn store_clash(a: &StoreLine, b: &StoreLine) -> bool
     is_same(node_in(a), node_in(b))
 }
 
-fn serves_keep(keep: &StoreLine, line: &StoreLine) -> bool
-    ensures { result ≡ serves_keep keep.now line.now }
+fn adds_kept(keep: &StoreLine, line: &StoreLine) -> bool
+    ensures { result ≡ adds_kept keep.now line.now }
 {
     if is_same(kept_disk(keep), disk_in(line)) {
         return true;
@@ -125,11 +83,11 @@ fn serves_keep(keep: &StoreLine, line: &StoreLine) -> bool
     is_same(kept_file(keep), stored_in(line))
 }
 
-fn is_served(keep: &StoreLine, lines: &[StoreLine]) -> bool
-    ensures { result ≡ list_any (serves_keep keep.now) lines.now }
+fn is_added(keep: &StoreLine, lines: &[StoreLine]) -> bool
+    ensures { result ≡ list_any (adds_kept keep.now) lines.now }
 {
     for line in lines {
-        if serves_keep(keep, line) {
+        if adds_kept(keep, line) {
             return true;
         }
     }
@@ -140,7 +98,7 @@ fn store_lacks(lines: &[StoreLine], line: &StoreLine) -> bool
     ensures { result ≡ store_lacks lines.now line.now }
 {
     if is_keep(line) {
-        return !is_served(line, lines);
+        return !is_added(line, lines);
     }
     false
 }

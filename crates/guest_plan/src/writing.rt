@@ -1,12 +1,12 @@
 // The text of a plan.
 ghost use Rattle.std.specs.Prelude.{◌≡◌, ◌∷◌, ◌++◌, OnOk, OnErr, codes};
 ghost use Rattle.std.specs.List.{flat_map};
-ghost use Rattle.guest_plan.specs.declared.plan.PlanLine.TheVariants.{Instance, Blob, Apk, File, Write, WriteDir};
+ghost use Rattle.guest_plan.specs.declared.plan.PlanLine.TheVariants.{Instance, Blob, Apk, File};
 ghost use Rattle.guid_crc.specs.Guids.{guid_text};
 ghost use Rattle.guest_plan.specs.Plans.{known};
 ghost use Rattle.std.specs.Fmt.{decimal};
 ghost use Rattle.text_lines.specs.Spelling.{ended, ◌then◌};
-ghost use Rattle.guest_plan.specs.Spelling.{measure_text, how_text, served_text, item_text, secret_items, salt_items, plan_text, IsWritten, IsPlan};
+ghost use Rattle.guest_plan.specs.Spelling.{measure_text, how_text, line_text, item_text, secret_items, salt_items, plan_text, IsWritten, IsPlan};
 
 use crate::plan::{How, Plan, PlanLine};
 use mg_base::{Digest, Guid, Memory};
@@ -54,17 +54,26 @@ fn put_how(alloc: Global, out: &mut Vec<u8>, how: &How) -> Result<(), AllocError
     }
 }
 
-/// Adds a name and a number, with a space between.
-fn put_named(alloc: Global, out: &mut Vec<u8>, name: &Name, file: u32) -> Result<(), AllocError>
-    ensures { OnOk result (out.new.items ≡ out.old.items ++ (name.now then decimal file)) }
+/// Adds a word with a space, a name and a number.
+fn put_named(
+    alloc: Global,
+    out: &mut Vec<u8>,
+    word: &[u8],
+    name: &Name,
+    file: u32,
+) -> Result<(), AllocError>
+    ensures { OnOk result
+        (out.new.items ≡ out.old.items ++ (word.now ++ (name.now then decimal file))) }
 {
+    out.extend_from_slice(word)?;
     out.extend_from_slice(name.as_str().as_bytes())?;
     out.push(b' ')?;
     put_number(alloc, out, u64::from(file))
 }
 
 fn put_instance(alloc: Global, out: &mut Vec<u8>, disk: u32, part: &Name) -> Result<(), AllocError>
-    ensures { OnOk result (out.new.items ≡ out.old.items ++ served_text (Instance disk part.now)) }
+    ensures { OnOk result
+        (out.new.items ≡ out.old.items ++ line_text (Instance disk part.now)) }
 {
     out.extend_from_slice(b"instance ")?;
     put_number(alloc, out, u64::from(disk))?;
@@ -78,7 +87,7 @@ fn put_blob(
     file: u32,
     measure: &Measure,
 ) -> Result<(), AllocError>
-    ensures { OnOk result (out.new.items ≡ out.old.items ++ served_text (Blob file measure.now)) }
+    ensures { OnOk result (out.new.items ≡ out.old.items ++ line_text (Blob file measure.now)) }
 {
     out.extend_from_slice(b"blob ")?;
     put_number(alloc, out, u64::from(file))?;
@@ -120,7 +129,7 @@ fn put_apk(
     how: &How,
 ) -> Result<(), AllocError>
     ensures { OnOk result
-        (out.new.items ≡ out.old.items ++ served_text (Apk disk apk.now idsig.now how.now)) }
+        (out.new.items ≡ out.old.items ++ line_text (Apk disk apk.now idsig.now how.now)) }
 {
     put_apk_place(alloc, out, disk, apk)?;
     put_apk_measure(alloc, out, idsig, how)
@@ -134,31 +143,16 @@ fn put_file(
     digest: &Digest,
 ) -> Result<(), AllocError>
     ensures { OnOk result
-        (out.new.items ≡ out.old.items ++ served_text (File name.now file digest.now)) }
+        (out.new.items ≡ out.old.items ++ line_text (File name.now file digest.now)) }
 {
-    out.extend_from_slice(b"file ")?;
-    put_named(alloc, out, name, file)?;
+    put_named(alloc, out, b"file ", name, file)?;
     out.push(b' ')?;
     put_hex(out, &digest.0)
 }
 
-fn put_write(alloc: Global, out: &mut Vec<u8>, name: &Name, file: u32) -> Result<(), AllocError>
-    ensures { OnOk result (out.new.items ≡ out.old.items ++ served_text (Write name.now file)) }
-{
-    out.extend_from_slice(b"write ")?;
-    put_named(alloc, out, name, file)
-}
-
-fn put_writedir(alloc: Global, out: &mut Vec<u8>, name: &Name, file: u32) -> Result<(), AllocError>
-    ensures { OnOk result (out.new.items ≡ out.old.items ++ served_text (WriteDir name.now file)) }
-{
-    out.extend_from_slice(b"writedir ")?;
-    put_named(alloc, out, name, file)
-}
-
 /// Adds what a line says, without its line feed.
-fn put_served(alloc: Global, out: &mut Vec<u8>, line: &PlanLine) -> Result<(), AllocError>
-    ensures { OnOk result (out.new.items ≡ out.old.items ++ served_text line.now) }
+fn put_text(alloc: Global, out: &mut Vec<u8>, line: &PlanLine) -> Result<(), AllocError>
+    ensures { OnOk result (out.new.items ≡ out.old.items ++ line_text line.now) }
 {
     match line {
         PlanLine::Instance { disk, part } => put_instance(alloc, out, *disk, part),
@@ -170,22 +164,22 @@ fn put_served(alloc: Global, out: &mut Vec<u8>, line: &PlanLine) -> Result<(), A
             how,
         } => put_apk(alloc, out, *disk, apk, idsig, how),
         PlanLine::File { name, file, digest } => put_file(alloc, out, name, *file, digest),
-        PlanLine::Write { name, file } => put_write(alloc, out, name, *file),
-        PlanLine::WriteDir { name, file } => put_writedir(alloc, out, name, *file),
+        PlanLine::Write { name, file } => put_named(alloc, out, b"write ", name, *file),
+        PlanLine::WriteDir { name, file } => put_named(alloc, out, b"writedir ", name, *file),
     }
 }
 
 fn put_line(alloc: Global, out: &mut Vec<u8>, line: &PlanLine) -> Result<(), AllocError>
-    ensures { OnOk result (out.new.items ≡ out.old.items ++ ended (served_text line.now)) }
+    ensures { OnOk result (out.new.items ≡ out.old.items ++ ended (line_text line.now)) }
 {
-    put_served(alloc, out, line)?;
+    put_text(alloc, out, line)?;
     out.push(b'\n')?;
     Ok(())
 }
 
 fn put_lines(alloc: Global, out: &mut Vec<u8>, lines: &[PlanLine]) -> Result<(), AllocError>
     ensures { OnOk result
-        (out.new.items ≡ out.old.items ++ flat_map (λ l. ended (served_text l)) lines.now) }
+        (out.new.items ≡ out.old.items ++ flat_map (λ l. ended (line_text l)) lines.now) }
 {
     for line in lines {
         put_line(alloc, out, line)?;

@@ -6,7 +6,7 @@ pub loop-i-preserved : goal.loop-i-preserved
 loop-i-preserved c =
     let r = c.index-lines-i.result in
     let at : get_or c.args.lines.now c.loop-i.i r ≡ r = search rules in
-    c.loop-i.invariant ∙ lacking_next c.args.keyed c.args.held c.args.lines.now c.args.numbers.now c.loop-i.i (c.loop-i.i + 1) r r (omega arith) (omega arith) (omega arith) at (sym c.lacks.ensures ∙ c.if-lacks.false)
+    c.loop-i.invariant ∙ lacking_next c.args.keyed c.args.there c.args.lines.now c.args.numbers.now c.loop-i.i (c.loop-i.i + 1) r r (omega arith) (omega arith) (omega arith) at (sym c.lacks.ensures ∙ c.if-lacks.false)
 
 pub returns : goal.returns
-returns c = sym (c.loop-i.invariant ∙ lacking_none c.args.keyed c.args.held c.args.lines.now c.args.numbers.now c.loop-i.i (omega arith))
+returns c = sym (c.loop-i.invariant ∙ lacking_none c.args.keyed c.args.there c.args.lines.now c.args.numbers.now c.loop-i.i (omega arith))
