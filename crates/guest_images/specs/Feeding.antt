@@ -1,4 +1,4 @@
--- A file that is read part by part, and the tree of it.
+-- A file that is read chunk by chunk, and the tree of it.
 use Rattle.std.specs.Prelude.{◌≡◌, ◌^◌, ◌⊎◌, ℕ, List, [], length, take, drop, Option, Some, None}
 use Rattle.sha_tree.specs.Fed.{Fed, IsFed}
 use Rattle.sha_tree.specs.Tree.{root, stored_tree}
@@ -7,9 +7,9 @@ use Rattle.host_traits.specs.Folders.{Files}
 use Rattle.guest_images.specs.Measuring.{HasInput}
 
 -- these are the file's bytes from a place on, cut behind 2 ^ 20, where the folder tells its files
-abbrev pub IsPart : Option Files → List ℕ → ℕ → List ℕ → Type 0
-IsPart None name at part = Unit {0}
-IsPart (Some files) name at part = (content : List ℕ) × (files name ≡ Some content) × (part ≡ take (2 ^ 20) (drop at content))
+abbrev pub IsChunk : Option Files → List ℕ → ℕ → List ℕ → Type 0
+IsChunk None name at chunk = Unit {0}
+IsChunk (Some files) name at chunk = (content : List ℕ) × (files name ≡ Some content) × (chunk ≡ take (2 ^ 20) (drop at content))
 
 -- none were read yet, or these are the file's first bytes
 abbrev pub Begins : Option Files → List ℕ → List ℕ → Type 0

@@ -1,7 +1,7 @@
-// A file's tree. The file is read part by part and never held as a whole.
+// A file's tree. The file is read chunk by chunk and never in memory as a whole.
 ghost use Rattle.std.specs.Prelude.{◌≡◌, ◌≤◌, ◌+◌, ◌^◌, ℕ, List, [], IfOk, IfErr, OnOk};
 ghost use Rattle.sha_tree.specs.Fed.{IsFed};
-ghost use Rattle.guest_images.specs.Feeding.{IsFedFile, IsPart, IsTreeOf};
+ghost use Rattle.guest_images.specs.Feeding.{IsFedFile, IsChunk, IsTreeOf};
 ghost use Rattle.guest_images.specs.Loads.{LoadFault, LoadsCause};
 
 use crate::status::Status;
@@ -11,11 +11,11 @@ use mg_base::Salt;
 use sha_tree::{Builder, Tree};
 use std::alloc::Global;
 
-// The most bytes of a part.
-const PART: u64 = 1_048_576;
+// The most bytes of a chunk.
+const CHUNK: u64 = 1_048_576;
 
-// The part of a file from this byte on. Only a part that reaches the file's end is shorter than the others.
-fn load_part<F: Folder>(
+// The chunk of a file from this byte on. Only a chunk that reaches the file's end is shorter than the others.
+fn load_chunk<F: Folder>(
     alloc: Global,
     folder: &mut F,
     name: &str,
@@ -23,13 +23,13 @@ fn load_part<F: Folder>(
 ) -> Result<Vec<u8>, Status>
     requires { at ≤ 2 ^ 30 }
     ensures files { F.files folder.new ≡ F.files folder.old }
-    ensures ok { IfOk result (λ v. IsPart (F.files folder.old) name.now at v.items) }
+    ensures ok { IfOk result (λ v. IsChunk (F.files folder.old) name.now at v.items) }
     ensures err { IfErr result (LoadFault (F.files folder.old) name.now 0) }
     ensures cause { LoadsCause (F.faults folder.old) (F.faults folder.new)
         (F.last_failed folder.new) result }
 {
-    match folder.load_part(alloc, name, at, PART) {
-        Ok(part) => Ok(part),
+    match folder.load_part(alloc, name, at, CHUNK) {
+        Ok(chunk) => Ok(chunk),
         Err(FolderError::Memory) => Err(Status::Memory),
         Err(FolderError::Failed) => match String::from_str(alloc, name) {
             Ok(name) => Err(Status::FileFault { name }),
@@ -54,18 +54,18 @@ fn feed_file<F: Folder>(
         (F.last_failed folder.new) result }
 {
     let mut at = 0;
-    'parts: while at <= FILE_LIMIT {
-        let part = match load_part(alloc, folder, name, at) {
-            Ok(part) => part,
+    'chunks: while at <= FILE_LIMIT {
+        let chunk = match load_chunk(alloc, folder, name, at) {
+            Ok(chunk) => chunk,
             Err(status) => return Err(status),
         };
-        let len = part.len() as u64;
-        match builder.feed(&part) {
+        let len = chunk.len() as u64;
+        match builder.feed(&chunk) {
             Ok(()) => {}
             Err(_) => return Err(Status::Memory),
         }
         at += len;
-        if len < PART && at <= FILE_LIMIT {
+        if len < CHUNK && at <= FILE_LIMIT {
             return Ok(());
         }
     }
