@@ -16,7 +16,8 @@ pub trait LineReader {
     /// Takes the line of this number, without its line feed.
     fn take(&mut self, alloc: Global, number: u64, line: &[u8]) -> Result<(), LineFault>
         requires { number ≤ 4096 }
-        ensures { MatchResult result (λ _. step self.old number line.now ≡ Ok self.new) (λ e. Fails e (step self.old number line.now)) };
+        ensures { MatchResult result (λ _. step self.old number line.now ≡ Ok self.new)
+            (λ e. Fails e (step self.old number line.now)) };
 }
 
 /// Takes a line, the first of which is the header.

@@ -60,7 +60,8 @@ fn take_line<I: ListLine>(
     line: &[u8],
 ) -> Result<(), LineFault>
     ensures { MatchResult result
-        (λ _. adds I.item_of (add_apart I.clash) items.old.items number line.now ≡ Ok items.new.items)
+        (λ _. adds I.item_of (add_apart I.clash) items.old.items number line.now
+        ≡ Ok items.new.items)
         (λ e. Fails e (adds I.item_of (add_apart I.clash) items.old.items number line.now)) }
 {
     let item = I::read(alloc, line)?;

@@ -311,7 +311,8 @@ pub fn page_salt(text: &[u8]) -> Result<Salt, LineFault>
     // What is read is spelled so.
     ensures found { IfOk result (λ s. IsSalt s × (text.now ≡ salt_text s)) }
     // What is spelled so is read.
-    ensures only { (s : List ℕ) → IsSalt s → text.now ≡ salt_text s → Gives (λ x. x) result (Ok s) }
+    ensures only { (s : List ℕ) → IsSalt s → text.now ≡ salt_text s
+        → Gives (λ x. x) result (Ok s) }
 {
     parse_salt(text)
 }
