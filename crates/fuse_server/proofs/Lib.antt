@@ -1,0 +1,7 @@
+pub mod Nodes
+pub mod Pairs
+pub mod Ends
+pub mod Plain
+pub mod Asking
+pub mod Staying
+pub mod Unserved

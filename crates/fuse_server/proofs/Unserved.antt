@@ -1,0 +1,210 @@
+-- What is answered over names that are served.
+use Rattle.std.proofs.Common.{◌≡◌, ◌%◌, if◌then◌else◌, ℕ, Bool, not, true, false, List, Option, Some, None, IsSome, Result, Ok, Err, refl, ap, subst}
+use Rattle.std.specs.Prelude.{◌==◌}
+use Rattle.std.specs.Option.{option_map}
+use Rattle.std.specs.FinMap as map
+use Rattle.mg_base.specs.declared.errno.Errno.{Errno}
+use Rattle.mg_base.specs.declared.errno.Errno.TheVariants.{Enoent, Enotdir, Eisdir, Eacces, Ebadf, Einval, Enospc, Enosys, Eproto}
+use Rattle.authfs_dirs.specs.declared.kind.Kind.{Kind}
+use Rattle.authfs_dirs.specs.declared.kind.Kind.TheVariants.{Dir, ReadOnly, Writable}
+use Rattle.authfs_dirs.specs.Names.{Node, NodeMap, ◌>>=◌, needs, found, node_at, directory, lookup_check, is_dir, host_of, may_add, may_remove}
+use Rattle.authfs_files.specs.Open.{may_open}
+use Rattle.fuse_codec.specs.Message.{Asked, init, lookup, forget, batch_forget, interrupt, getattr, setattr, opening, opendir, read, write, flush, fsync, release, releasedir, readdir, create, mkdir, unlink, rmdir, statfs, destroy, Message, Bad, quiet, bad_length, bad_opcode, bad_sizes}
+use Rattle.fuse_server.specs.State.{State, Files, file_at, as_file, attr_of, attr_of_file, live, live_file, held}
+use Rattle.fuse_server.specs.Aims.{Aim, is_old, init_aim, lookup_aim, getattr_aim, setattr_aim, size_refusal, asks_size, open_aim, read_aim, write_aim, handled_aim, add_aim, remove_aim, statfs_aim, ready_aim, message_aim, aim_of}
+use Rattle.fuse_server.specs.Serving.{IsServedKind, AreServed, IsUnserved, IsUnknown}
+
+abbrev NotNosys : {A : Type 0} → Result A Errno → Type 0
+NotNosys r = r ≡ Err Enosys → ⊥
+
+err_is : {A : Type 0} (e : Errno) → ◌≡◌ {A = Result A Errno} (Err e) (Err Enosys) → e ≡ Enosys
+err_is e same = cc
+
+ok_is : {A : Type 0} (x y : A) → ◌≡◌ {A = Result A Errno} (Ok x) (Ok y) → x ≡ y
+ok_is x y same = cc
+
+no_err : {A : Type 0} (x : A) → ◌≡◌ {A = Result A Errno} (Ok x) (Err Enosys) → ⊥
+no_err x same = absurd cc
+
+bind_not : {A B : Type 0} (r : Result A Errno) (f : A → Result B Errno) → NotNosys r → ((x : A) → r ≡ Ok x → NotNosys (f x)) → NotNosys (r >>= f)
+bind_not (Ok x) f n g e = g x refl e
+bind_not (Err e) f n g same = n (ap Err (err_is e same))
+
+needs_not : (b : Bool) (e : Errno) → (e ≡ Enosys → ⊥) → NotNosys (needs b e)
+needs_not true e n same = no_err tt same
+needs_not false e n same = n (err_is e same)
+
+found_not : {A : Type 0} (o : Option A) (e : Errno) → (e ≡ Enosys → ⊥) → NotNosys (found o e)
+found_not (Some x) e n same = no_err x same
+found_not None e n same = n (err_is e same)
+
+some_not : {A : Type 0} (o : Option A) → IsSome o → NotNosys (found o Enosys)
+some_not (Some x) there same = no_err x same
+some_not None there same = absurd cc
+
+proto_not : Eproto ≡ Enosys → ⊥
+proto_not e = absurd cc
+
+noent_not : Enoent ≡ Enosys → ⊥
+noent_not e = absurd cc
+
+notdir_not : Enotdir ≡ Enosys → ⊥
+notdir_not e = absurd cc
+
+isdir_not : Eisdir ≡ Enosys → ⊥
+isdir_not e = absurd cc
+
+acces_not : Eacces ≡ Enosys → ⊥
+acces_not e = absurd cc
+
+badf_not : Ebadf ≡ Enosys → ⊥
+badf_not e = absurd cc
+
+nospc_not : Enospc ≡ Enosys → ⊥
+nospc_not e = absurd cc
+
+inval_not : Einval ≡ Enosys → ⊥
+inval_not e = absurd cc
+
+file_not : (files : Files) (kind : Kind) → IsServedKind files kind → NotNosys (as_file files kind)
+file_not files (Dir host) w same = isdir_not (err_is Eisdir same)
+file_not files (ReadOnly file) w same = some_not (file_at files file) w same
+file_not files (Writable file) w same = absurd w
+
+attr_not : (files : Files) (node : ℕ) (kind : Kind) → IsServedKind files kind → NotNosys (attr_of files node kind)
+attr_not files node (Dir host) w same = no_err _ same
+attr_not files node (ReadOnly file) w same = bind_not (found (file_at files file) Enosys) (λ f. Ok (attr_of_file node f)) (some_not (file_at files file) w) (λ f e. no_err _) same
+attr_not files node (Writable file) w same = absurd w
+
+size_not : (files : Files) (kind : Kind) → IsServedKind files kind → size_refusal kind ≡ Enosys → ⊥
+size_not files (Dir host) w e = isdir_not e
+size_not files (ReadOnly file) w e = acces_not e
+size_not files (Writable file) w e = absurd w
+
+dir_not : (m : NodeMap) (n : ℕ) → NotNosys (directory m n)
+unfolding directory
+dir_not m n = bind_not (found (map.get m n) Enoent) _ (found_not _ Enoent noent_not) (λ x e. bind_not (needs (is_dir x.kind) Enotdir) _ (needs_not _ Enotdir notdir_not) (λ u f. no_err x))
+
+dir_some : (y x : Node) (b : Bool) → (needs b Enotdir >>= λ _. Ok y) ≡ Ok x → ◌≡◌ {A = Option Node} (Some y) (Some x)
+dir_some y x true e = ap Some (ok_is y x e)
+dir_some y x false e = absurd cc
+
+dir_by : (x : Node) (o : Option Node) → (found o Enoent >>= λ y. needs (is_dir y.kind) Enotdir >>= λ _. Ok y) ≡ Ok x → o ≡ Some x
+dir_by x None e = absurd cc
+dir_by x (Some y) e = dir_some y x (is_dir y.kind) e
+
+dir_at : (m : NodeMap) (n : ℕ) (x : Node) → directory m n ≡ Ok x → map.get m n ≡ Some x
+unfolding directory
+dir_at m n x e = dir_by x (map.get m n) e
+
+host_none : (files : Files) (kind : Kind) → IsServedKind files kind → host_of kind ≡ None
+host_none files (Dir None) w = refl
+host_none files (Dir (Some host)) w = absurd w
+host_none files (ReadOnly file) w = refl
+host_none files (Writable file) w = absurd w
+
+no_host : (o : Option ℕ) (rest : ℕ → Result ℕ Errno) → o ≡ None → NotNosys {A = Aim} ((found o Eacces >>= rest) >>= λ _. Err Enosys)
+no_host o rest none = rw none (λ same. acces_not (err_is Eacces same))
+
+changed_by : (s : State) → AreServed s.names s.files → (n : ℕ) (rest : Node → ℕ → Result ℕ Errno) (d : Result Node Errno) → directory s.names.nodes n ≡ d
+    → NotNosys {A = Aim} ((d >>= λ x. found (host_of x.kind) Eacces >>= rest x) >>= λ _. Err Enosys)
+changed_by s w n rest (Err e) there same = dir_not s.names.nodes n (rw there (ap Err (err_is e same)))
+changed_by s w n rest (Ok x) there same = no_host (host_of x.kind) (rest x) (host_none s.files x.kind (w n x (dir_at s.names.nodes n x there))) same
+
+module _ (s : State) (w : AreServed s.names s.files) where
+  live_not : (n : ℕ) → NotNosys (live s n)
+  live_not n = found_not _ Enoent noent_not
+
+  kind_by : (n : ℕ) (kind : Kind) (o : Option Node) → node_at s.names n ≡ o → found (option_map (λ (x : Node). x.kind) o) Enoent ≡ Ok kind → IsServedKind s.files kind
+  kind_by n kind None there e = absurd cc
+  kind_by n kind (Some x) there e = subst (IsServedKind s.files) (ok_is x.kind kind e) (w n x there)
+
+  kind_at : (n : ℕ) (kind : Kind) → live s n ≡ Ok kind → IsServedKind s.files kind
+  kind_at n kind e = kind_by n kind (node_at s.names n) refl e
+
+  live_file_not : (n : ℕ) → NotNosys (live_file s n)
+  live_file_not n = bind_not (live s n) _ (live_not n) (λ kind e. file_not s.files kind (kind_at n kind e))
+
+  held_not : (fh n : ℕ) → NotNosys (held s fh n)
+  held_not fh n = needs_not _ Ebadf badf_not
+
+  lookup_not : (n : ℕ) (name : List ℕ) → NotNosys (lookup_aim s n name)
+  unfolding lookup_aim lookup_check
+  lookup_not n name = bind_not (lookup_check s.names.nodes n name) _ (bind_not (directory s.names.nodes n) _ (dir_not _ n) (λ x e. found_not _ Enoent noent_not))
+      (λ node e. bind_not (live s node) _ (live_not node) (λ kind f. bind_not (attr_of s.files node kind) _ (attr_not s.files node kind (kind_at node kind f)) (λ attr g. no_err _)))
+
+  getattr_not : (n : ℕ) → NotNosys (getattr_aim s n)
+  unfolding getattr_aim
+  getattr_not n = bind_not (live s n) _ (live_not n) (λ kind f. bind_not (attr_of s.files n kind) _ (attr_not s.files n kind (kind_at n kind f)) (λ attr g. no_err _))
+
+  set_not : (n : ℕ) (kind : Kind) (b : Bool) → IsServedKind s.files kind → NotNosys (if b then Err (size_refusal kind) else getattr_aim s n)
+  set_not n kind true k same = size_not s.files kind k (err_is _ same)
+  set_not n kind false k same = getattr_not n same
+
+  setattr_not : (n valid : ℕ) → NotNosys (setattr_aim s n valid)
+  unfolding setattr_aim
+  setattr_not n valid = bind_not (live s n) _ (live_not n) (λ kind f. set_not n kind (asks_size valid) (kind_at n kind f))
+
+  open_not : (n flags : ℕ) → NotNosys (open_aim s n flags)
+  unfolding open_aim
+  open_not n flags = bind_not (live_file s n) _ (live_file_not n) (λ f e. bind_not (needs (flags % 4 == 0) Eacces) _ (needs_not (flags % 4 == 0) Eacces acces_not) (λ u g. bind_not (needs (may_open s.open_handles s.given) Enospc) _ (needs_not (may_open s.open_handles s.given) Enospc nospc_not) (λ v h. no_err _)))
+
+  read_not : (n fh offset size : ℕ) → NotNosys (read_aim s n fh offset size)
+  unfolding read_aim
+  read_not n fh offset size = bind_not (live_file s n) _ (live_file_not n) (λ f e. bind_not (held s fh n) _ (held_not fh n) (λ u g. no_err _))
+
+  write_not : (n fh : ℕ) → NotNosys (write_aim s n fh)
+  unfolding write_aim
+  write_not n fh = bind_not (live_file s n) _ (live_file_not n) (λ f e. bind_not (held s fh n) _ (held_not fh n) (λ u g same. acces_not (err_is Eacces same)))
+
+  handled_not : (n fh : ℕ) → NotNosys (handled_aim s n fh)
+  unfolding handled_aim
+  handled_not n fh = bind_not (live_file s n) _ (live_file_not n) (λ f e. bind_not (held s fh n) _ (held_not fh n) (λ u g. no_err _))
+
+  add_not : (n : ℕ) (name : List ℕ) → NotNosys (add_aim s n name)
+  unfolding add_aim may_add
+  add_not n name = changed_by s w n _ (directory s.names.nodes n) refl
+
+  remove_not : (n : ℕ) (name : List ℕ) (dir : Bool) → NotNosys (remove_aim s n name dir)
+  unfolding remove_aim may_remove
+  remove_not n name dir = changed_by s w n _ (directory s.names.nodes n) refl
+
+  statfs_not : (n : ℕ) → NotNosys (statfs_aim s n)
+  unfolding statfs_aim
+  statfs_not n = bind_not (live s n) _ (live_not n) (λ kind f. no_err _)
+
+  init_not : (a b c e : ℕ) → NotNosys (init_aim s a b c e)
+  unfolding init_aim
+  init_not a b c e = bind_not (needs (not s.ready) Eproto) _ (needs_not (not s.ready) Eproto proto_not) (λ u f. bind_not (needs (not (is_old a b)) Eproto) _ (needs_not (not (is_old a b)) Eproto proto_not) (λ v g. no_err _))
+
+  asked_not : (n : ℕ) (asked : Asked) → message_aim s n asked ≡ Err Enosys → IsUnserved asked
+  unfolding message_aim ready_aim
+  asked_not n (init a b c e) same = absurd (init_not a b c e same)
+  asked_not n (forget k) same = absurd (no_err _ same)
+  asked_not n (batch_forget pairs) same = absurd (no_err _ same)
+  asked_not n interrupt same = absurd (no_err _ same)
+  asked_not n opendir same = tt
+  asked_not n (releasedir fh) same = tt
+  asked_not n (readdir fh offset size) same = tt
+  asked_not n (lookup name) same = absurd (bind_not (needs s.ready Eproto) _ (needs_not s.ready Eproto proto_not) (λ u e. lookup_not n name) same)
+  asked_not n getattr same = absurd (bind_not (needs s.ready Eproto) _ (needs_not s.ready Eproto proto_not) (λ u e. getattr_not n) same)
+  asked_not n (setattr valid size) same = absurd (bind_not (needs s.ready Eproto) _ (needs_not s.ready Eproto proto_not) (λ u e. setattr_not n valid) same)
+  asked_not n (opening flags) same = absurd (bind_not (needs s.ready Eproto) _ (needs_not s.ready Eproto proto_not) (λ u e. open_not n flags) same)
+  asked_not n (read fh offset size) same = absurd (bind_not (needs s.ready Eproto) _ (needs_not s.ready Eproto proto_not) (λ u e. read_not n fh offset size) same)
+  asked_not n (write fh offset bytes) same = absurd (bind_not (needs s.ready Eproto) _ (needs_not s.ready Eproto proto_not) (λ u e. write_not n fh) same)
+  asked_not n (flush fh) same = absurd (bind_not (needs s.ready Eproto) _ (needs_not s.ready Eproto proto_not) (λ u e. handled_not n fh) same)
+  asked_not n (fsync fh) same = absurd (bind_not (needs s.ready Eproto) _ (needs_not s.ready Eproto proto_not) (λ u e. handled_not n fh) same)
+  asked_not n (release fh) same = absurd (bind_not (needs s.ready Eproto) _ (needs_not s.ready Eproto proto_not) (λ u e. handled_not n fh) same)
+  asked_not n (create name) same = absurd (bind_not (needs s.ready Eproto) _ (needs_not s.ready Eproto proto_not) (λ u e. add_not n name) same)
+  asked_not n (mkdir name) same = absurd (bind_not (needs s.ready Eproto) _ (needs_not s.ready Eproto proto_not) (λ u e. add_not n name) same)
+  asked_not n (unlink name) same = absurd (bind_not (needs s.ready Eproto) _ (needs_not s.ready Eproto proto_not) (λ u e. remove_not n name false) same)
+  asked_not n (rmdir name) same = absurd (bind_not (needs s.ready Eproto) _ (needs_not s.ready Eproto proto_not) (λ u e. remove_not n name true) same)
+  asked_not n statfs same = absurd (bind_not (needs s.ready Eproto) _ (needs_not s.ready Eproto proto_not) (λ u e. statfs_not n) same)
+  asked_not n destroy same = absurd (bind_not (needs s.ready Eproto) _ (needs_not s.ready Eproto proto_not) (λ u e. no_err _) same)
+
+  pub all_served : (m : Result Message Bad) → aim_of s m ≡ Err Enosys → IsUnknown m
+  all_served (Ok m) same = asked_not m.node m.asked same
+  all_served (Err quiet) same = absurd (no_err _ same)
+  all_served (Err (bad_length unique)) same = absurd (inval_not (err_is Einval same))
+  all_served (Err (bad_opcode unique op)) same = tt
+  all_served (Err (bad_sizes unique)) same = absurd (inval_not (err_is Einval same))

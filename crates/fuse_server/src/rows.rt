@@ -1,0 +1,287 @@
+// Each operation: its checks in order, and what it makes of the state.
+ghost use Rattle.std.specs.Prelude.{◌≡◌, ◌≤◌, Ok};
+ghost use Rattle.authfs_dirs.specs.Names.{lookup_check};
+ghost use Rattle.fuse_codec.specs.Message.{forget, opening, release};
+ghost use Rattle.fuse_server.specs.Aims.{init_aim, lookup_aim, getattr_aim, setattr_aim, open_aim, read_aim, write_aim, handled_aim, add_aim, remove_aim, statfs_aim};
+ghost use Rattle.fuse_server.specs.Deeds.{IsDeed, NoRead, ReadsFew, answer_to};
+ghost use Rattle.fuse_server.specs.Effects.{Becomes, UnlessRefused, IsDestroyed, initialised, counted};
+ghost use Rattle.fuse_server.specs.Parts.{state_of};
+
+use crate::checks::{attr_of, held, live, live_file};
+use crate::deed::Deed;
+use crate::parts::Parts;
+use authfs_dirs::Kind;
+use fuse_codec::{EntryOut, InitOut};
+use mg_base::Errno;
+
+/// The protocol that is spoken.
+const MAJOR: u32 = 7;
+
+const MINOR: u32 = 31;
+
+/// The bit of INIT's flags that is agreed to (`FUSE_BIG_WRITES`).
+const BIG_WRITES: u32 = 0x20;
+
+/// The bit of SETATTR that asks for a size (`FATTR_SIZE`).
+const ASKS_SIZE: u32 = 8;
+
+/// INIT.
+#[tactic(auto, unfolding(crate::specs::Aims::init_aim))]
+pub(crate) fn init(
+    parts: &mut Parts,
+    major: u32,
+    minor: u32,
+    max_readahead: u32,
+    flags: u32,
+) -> Result<Deed, Errno>
+    ensures row { IsDeed (init_aim (state_of parts.old) major minor max_readahead flags) result }
+    ensures no_read { NoRead result }
+    ensures next { UnlessRefused (state_of parts.old) (state_of parts.new)
+        (state_of parts.new ≡ initialised (state_of parts.old) major) (answer_to result) }
+{
+    if parts.ready {
+        return Err(Errno::Eproto);
+    }
+    if major < MAJOR || major == MAJOR && minor < MINOR {
+        return Err(Errno::Eproto);
+    }
+    if major > MAJOR {
+        return Ok(Deed::Init(InitOut {
+            major: MAJOR,
+            minor: MINOR,
+            max_readahead: 0,
+            flags: 0,
+            max_background: 0,
+            congestion_threshold: 0,
+            max_write: 0,
+            time_gran: 0,
+        }));
+    }
+    parts.ready = true;
+    Ok(Deed::Init(InitOut {
+        major: MAJOR,
+        minor: MINOR,
+        max_readahead,
+        flags: flags & BIG_WRITES,
+        max_background: 16,
+        congestion_threshold: 12,
+        max_write: 131_072,
+        time_gran: 1,
+    }))
+}
+
+/// LOOKUP: one lookup more of the node that the name names.
+#[tactic(auto, using(crate::proofs::Nodes::kind_looked), unfolding(crate::specs::Aims::lookup_aim))]
+pub(crate) fn lookup(parts: &mut Parts, parent: u64, name: &[u8]) -> Result<Deed, Errno>
+    ensures row { IsDeed (lookup_aim (state_of parts.old) parent name.now) result }
+    ensures no_read { NoRead result }
+    ensures next { state_of parts.new ≡ counted (state_of parts.old)
+        (lookup_check parts.old.dirs.nodes parent name.now) }
+{
+    let node = match parts.dirs.lookup(parent, name) {
+        Ok(node) => node,
+        Err(errno) => return Err(errno),
+    };
+    let kind = match live(parts, node) {
+        Ok(kind) => kind,
+        Err(errno) => return Err(errno),
+    };
+    match attr_of(&parts.files, node, kind) {
+        Ok(attr) => Ok(Deed::Entry(EntryOut { node, attr })),
+        Err(errno) => Err(errno),
+    }
+}
+
+/// GETATTR.
+#[tactic(auto, unfolding(crate::specs::Aims::getattr_aim))]
+pub(crate) fn getattr(parts: &Parts, node: u64) -> Result<Deed, Errno>
+    ensures row { IsDeed (getattr_aim (state_of parts.now) node) result }
+    ensures no_read { NoRead result }
+{
+    let kind = match live(parts, node) {
+        Ok(kind) => kind,
+        Err(errno) => return Err(errno),
+    };
+    match attr_of(&parts.files, node, kind) {
+        Ok(attr) => Ok(Deed::Attr(attr)),
+        Err(errno) => Err(errno),
+    }
+}
+
+/// SETATTR: a size is refused, and nothing else is changed.
+#[tactic(auto, unfolding(crate::specs::Aims::setattr_aim))]
+pub(crate) fn setattr(parts: &Parts, node: u64, valid: u32) -> Result<Deed, Errno>
+    ensures row { IsDeed (setattr_aim (state_of parts.now) node valid) result }
+    ensures no_read { NoRead result }
+{
+    let kind = match live(parts, node) {
+        Ok(kind) => kind,
+        Err(errno) => return Err(errno),
+    };
+    if valid & ASKS_SIZE == 0 {
+        return getattr(parts, node);
+    }
+    match kind {
+        Kind::Dir { .. } => Err(Errno::Eisdir),
+        Kind::ReadOnly { .. } => Err(Errno::Eacces),
+        Kind::Writable { .. } => Err(Errno::Enosys),
+    }
+}
+
+/// OPEN: one handle more.
+#[tactic(auto, unfolding(crate::specs::Aims::open_aim))]
+pub(crate) fn open(parts: &mut Parts, node: u64, flags: u32) -> Result<Deed, Errno>
+    ensures row { IsDeed (open_aim (state_of parts.old) node flags) result }
+    ensures no_read { NoRead result }
+    ensures next { Becomes (state_of parts.old) node (opening flags)
+        (answer_to result) (state_of parts.new) }
+{
+    match live_file(parts, node) {
+        Ok(_) => {}
+        Err(errno) => return Err(errno),
+    }
+    if flags % 4 != 0 {
+        return Err(Errno::Eacces);
+    }
+    if !parts.handles.may_open() {
+        return Err(Errno::Enospc);
+    }
+    match parts.handles.reserve() {
+        Ok(()) => {}
+        Err(_) => return Err(Errno::Enomem),
+    }
+    let handle = parts.handles.open_node(node);
+    parts.dirs.pin(node);
+    Ok(Deed::Opened(handle))
+}
+
+/// READ, up to the read itself.
+#[tactic(auto, unfolding(crate::specs::Aims::read_aim))]
+pub(crate) fn read(parts: &Parts, node: u64, fh: u64, offset: u64, size: u32) -> Result<Deed, Errno>
+    requires { size ≤ 131072 }
+    ensures row { IsDeed (read_aim (state_of parts.now) node fh offset size) result }
+    ensures few { ReadsFew result }
+{
+    let file = match live_file(parts, node) {
+        Ok(file) => file,
+        Err(errno) => return Err(errno),
+    };
+    match held(parts, fh, node) {
+        Ok(()) => Ok(Deed::Read { file, offset, size }),
+        Err(errno) => Err(errno),
+    }
+}
+
+/// WRITE: a file that is only read isn't written.
+#[tactic(auto, unfolding(crate::specs::Aims::write_aim))]
+pub(crate) fn write(parts: &Parts, node: u64, fh: u64) -> Result<Deed, Errno>
+    ensures row { IsDeed (write_aim (state_of parts.now) node fh) result }
+    ensures no_read { NoRead result }
+{
+    match live_file(parts, node) {
+        Ok(_) => {}
+        Err(errno) => return Err(errno),
+    }
+    match held(parts, fh, node) {
+        Ok(()) => Err(Errno::Eacces),
+        Err(errno) => Err(errno),
+    }
+}
+
+/// FLUSH and FSYNC: nothing is to be written.
+#[tactic(auto, unfolding(crate::specs::Aims::handled_aim))]
+pub(crate) fn flush(parts: &Parts, node: u64, fh: u64) -> Result<Deed, Errno>
+    ensures row { IsDeed (handled_aim (state_of parts.now) node fh) result }
+    ensures no_read { NoRead result }
+{
+    match live_file(parts, node) {
+        Ok(_) => {}
+        Err(errno) => return Err(errno),
+    }
+    match held(parts, fh, node) {
+        Ok(()) => Ok(Deed::Empty),
+        Err(errno) => Err(errno),
+    }
+}
+
+/// RELEASE: one handle less.
+#[tactic(auto, unfolding(crate::specs::Aims::handled_aim))]
+pub(crate) fn release(parts: &mut Parts, node: u64, fh: u64) -> Result<Deed, Errno>
+    ensures row { IsDeed (handled_aim (state_of parts.old) node fh) result }
+    ensures no_read { NoRead result }
+    ensures next { Becomes (state_of parts.old) node (release fh)
+        (answer_to result) (state_of parts.new) }
+{
+    match live_file(parts, node) {
+        Ok(_) => {}
+        Err(errno) => return Err(errno),
+    }
+    match held(parts, fh, node) {
+        Ok(()) => {}
+        Err(errno) => return Err(errno),
+    }
+    parts.handles.close(fh);
+    parts.dirs.unpin(node);
+    Ok(Deed::Empty)
+}
+
+/// CREATE and MKDIR: why a name isn't added.
+#[tactic(auto, unfolding(crate::specs::Aims::add_aim))]
+pub(crate) fn add(parts: &Parts, parent: u64, name: &[u8]) -> Result<Deed, Errno>
+    ensures row { IsDeed (add_aim (state_of parts.now) parent name.now) result }
+    ensures no_read { NoRead result }
+{
+    match parts.dirs.may_add(parent, name) {
+        Ok(_) => Err(Errno::Enosys),
+        Err(errno) => Err(errno),
+    }
+}
+
+/// UNLINK and RMDIR: why a name isn't removed.
+#[tactic(auto, unfolding(crate::specs::Aims::remove_aim))]
+pub(crate) fn remove(parts: &Parts, parent: u64, name: &[u8], dir: bool) -> Result<Deed, Errno>
+    ensures row { IsDeed (remove_aim (state_of parts.now) parent name.now dir) result }
+    ensures no_read { NoRead result }
+{
+    match parts.dirs.may_remove(parent, name, dir) {
+        Ok(_) => Err(Errno::Enosys),
+        Err(errno) => Err(errno),
+    }
+}
+
+/// STATFS.
+#[tactic(auto, unfolding(crate::specs::Aims::statfs_aim))]
+pub(crate) fn statfs(parts: &Parts, node: u64) -> Result<Deed, Errno>
+    ensures row { IsDeed (statfs_aim (state_of parts.now) node) result }
+    ensures no_read { NoRead result }
+{
+    match live(parts, node) {
+        Ok(_) => Ok(Deed::Statfs),
+        Err(errno) => Err(errno),
+    }
+}
+
+/// FORGET: so many lookups less.
+pub(crate) fn forget(parts: &mut Parts, node: u64, count: u64) -> Result<Deed, Errno>
+    ensures silent { result ≡ Ok Deed.Silent }
+    ensures no_read { NoRead result }
+    ensures next { Becomes (state_of parts.old) node (forget count)
+        (answer_to result) (state_of parts.new) }
+{
+    if parts.ready {
+        parts.dirs.forget(node, count);
+    }
+    Ok(Deed::Silent)
+}
+
+/// DESTROY: no handle, no lookup, not initialised.
+pub(crate) fn destroy(parts: &mut Parts) -> Result<Deed, Errno>
+    ensures empty { result ≡ Ok Deed.Empty }
+    ensures no_read { NoRead result }
+    ensures next { IsDestroyed (state_of parts.old) (state_of parts.new) }
+{
+    parts.ready = false;
+    parts.dirs.reset();
+    parts.handles.close_all();
+    Ok(Deed::Empty)
+}
