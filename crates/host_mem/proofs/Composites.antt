@@ -12,7 +12,8 @@ use Rattle.block_map.specs.declared.map.MapFault.{MapFault}
 use Rattle.block_map.specs.declared.map.MapFault.TheVariants as faults
 use Rattle.block_map.specs.Disk.{byte_at, disk_bytes, begin_of, end_of, is_writable, Judges, MayWriteBelow, IsTouched, AreWritten}
 use Rattle.host_mem.specs.Made.{composite_disk, is_open}
-use Rattle.host_mem.proofs.Components.{Holds, holder_of, begin_end, end_before}
+use Rattle.block_map.proofs.Offsets.{Holds, begin_end, end_before}
+use Rattle.block_map.proofs.Writes.{holder_of}
 
 pub disk_length : (s : Composite) (files : List (List ℕ)) → length (disk_bytes s files) ≡ s.length
 unfolding disk_bytes

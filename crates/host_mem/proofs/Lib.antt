@@ -1,4 +1,3 @@
-pub mod Components
 pub mod Composites
 pub mod Changes
 pub mod Serving

@@ -66,36 +66,32 @@ pub heard_size-append : (a b : Exchanges) → heard_size (a ++ b) ≡ heard_size
 heard_size-append [] b = omega arith
 heard_size-append (x ∷ a) b = omega (arith, heard_size-append a b)
 
--- an answer keeps the counters, with its bytes
-pub counted-answer : (records : List TapeItem) (calls : List Call) (room count size more : ℕ) (last : Option Call) (call : Call) (r : TapeItem) (said : Said) → IsPlayed records calls room count size last
-    → slice_get records (length calls) ≡ Some r → answer_of (kind_of call) r ≡ Some said → more ≡ said_size said → IsPlayed records (calls ++ call ∷ []) room count (min (size + more) (2 ^ 64 - 1)) last
-counted-answer records calls room count size more last call r said p at some more_is =
-    let recites = recited-next calls records call r at ∙ ap (λ a. recited calls records ++ exchange_of call a) some in
-    let sizes : heard_size (recited (calls ++ call ∷ []) records) ≡ heard_size (recited calls records) + said_size said =
-    ap heard_size recites ∙ heard_size-append (recited calls records) ((call, said) ∷ []) ∙ omega arith in
-    let fails = ap one_failure some in
-    let counts = failures-next calls records call r at in
+-- a call that takes a record keeps the counters
+counted-next : (records : List TapeItem) (calls : List Call) (room count size : ℕ) (last : Option Call) (call : Call) (r : TapeItem) (came : Option Said) (count' size' : ℕ) → IsPlayed records calls room count size last
+    → slice_get records (length calls) ≡ Some r → answer_of (kind_of call) r ≡ came → count' ≡ count + one_failure came → size' ≡ min (heard_size (recited calls records ++ exchange_of call came)) (2 ^ 64 - 1)
+    → IsPlayed records (calls ++ call ∷ []) room count' size' last
+counted-next records calls room count size last call r came count' size' p at is failed heard =
+    let fails = failures-next calls records call r at ∙ ap (λ x. failures calls records + one_failure x) is in
+    let recites = recited-next calls records call r at ∙ ap (λ a. recited calls records ++ exchange_of call a) is in
     record {
       fits = simp length-append (omega (arith, slice_get_within records (length calls) r at));
       early = λ more. p.early (slice_get_within records (length calls) r at);
       spare = p.spare;
-      refusals = omega (arith, p.refusals, counts, fails);
-      sizes = omega (arith, p.sizes, sizes, more_is);
+      refusals = omega (arith, failed, p.refusals, fails);
+      sizes = heard ∙ ap (λ h. min (heard_size h) (2 ^ 64 - 1)) (sym recites);
     }
+
+-- an answer, with its bytes
+pub counted-answer : (records : List TapeItem) (calls : List Call) (room count size more : ℕ) (last : Option Call) (call : Call) (r : TapeItem) (said : Said) → IsPlayed records calls room count size last
+    → slice_get records (length calls) ≡ Some r → answer_of (kind_of call) r ≡ Some said → more ≡ said_size said → IsPlayed records (calls ++ call ∷ []) room count (min (size + more) (2 ^ 64 - 1)) last
+counted-answer records calls room count size more last call r said p at some more_is =
+    let total : heard_size (recited calls records ++ (call, said) ∷ []) ≡ heard_size (recited calls records) + said_size said = heard_size-append (recited calls records) ((call, said) ∷ []) ∙ omega arith in
+    counted-next records calls room count size last call r (Some said) count (min (size + more) (2 ^ 64 - 1)) p at some (omega arith) (omega (arith, p.sizes, total, more_is))
 
 pub counted-refusal : (records : List TapeItem) (calls : List Call) (room count size : ℕ) (last : Option Call) (call : Call) (r : TapeItem) → IsPlayed records calls room count size last
     → slice_get records (length calls) ≡ Some r → answer_of (kind_of call) r ≡ None → IsPlayed records (calls ++ call ∷ []) room (count + 1) size last
 counted-refusal records calls room count size last call r p at none =
-    let recites = recited-next calls records call r at ∙ ap (λ a. recited calls records ++ exchange_of call a) none ∙ append-nil (recited calls records) in
-    let fails = ap one_failure none in
-    let counts = failures-next calls records call r at in
-    record {
-      fits = simp length-append (omega (arith, slice_get_within records (length calls) r at));
-      early = λ more. p.early (slice_get_within records (length calls) r at);
-      spare = p.spare;
-      refusals = omega (arith, p.refusals, counts, fails);
-      sizes = p.sizes ∙ ap (λ h. min (heard_size h) (2 ^ 64 - 1)) (sym recites);
-    }
+    counted-next records calls room count size last call r None (count + 1) size p at none (omega arith) (p.sizes ∙ ap (λ h. min (heard_size h) (2 ^ 64 - 1)) (sym (append-nil (recited calls records))))
 
 -- one record less is ahead
 ahead-next : (calls : List Call) (records : List TapeItem) (call : Call) → Some (drop (length (calls ++ call ∷ [])) records) ≡ behind (Some (drop (length calls) records))
