@@ -3,3 +3,4 @@ pub mod Tables
 pub mod Inodes
 pub mod Dirents
 pub mod Lines
+pub mod Tree

@@ -81,6 +81,11 @@ abbrev pub unnamed : List ℕ → List Entry → List Entry
 unnamed name [] = []
 unnamed name (e ∷ es) = if is_named name e then es else e ∷ unnamed name es
 
+-- no two names are the same
+abbrev pub AreAlone : List Entry → Type 0
+AreAlone [] = Unit {0}
+AreAlone (e ∷ es) = (named e.name es ≡ None) × AreAlone es
+
 -- ---- checks, one after another: the first that fails is the answer
 
 infixl 10 ◌>>=◌

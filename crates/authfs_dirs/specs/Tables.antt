@@ -4,7 +4,7 @@ use Rattle.std.specs.Global.{Vec}
 use Rattle.std.specs.Option.{option_map}
 use Rattle.std.specs.Map.{lookup}
 use Rattle.std.specs.Cmp.Lexicographic.{pointwise}
-use Rattle.authfs_dirs.specs.Names.{Entry, entry, named}
+use Rattle.authfs_dirs.specs.Names.{Entry, entry, named, AreAlone}
 use Rattle.authfs_dirs.specs.declared.rows.Row.{Row}
 use Rattle.authfs_dirs.specs.declared.name_table.Spot.{Spot}
 use Rattle.authfs_dirs.specs.declared.name_table.Named.{Named}
@@ -69,11 +69,6 @@ pub record StandsAt (cookie : ℕ) (rows : List Row) (place : ℕ) : Type 0 wher
   pub there : slice_get rows place ≡ Some row
   pub cookie_is : row.cookie ≡ cookie
   pub front : (k : ℕ) (d : Row) → k < place → nat_lt ((slice_index_or rows k d).cookie) cookie ≡ true
-
--- no two names are the same
-abbrev pub AreAlone : List Entry → Type 0
-AreAlone [] = Unit {0}
-AreAlone (e ∷ es) = (named e.name es ≡ None) × AreAlone es
 
 abbrev pub dead : Slot → Slot
 dead s = record { entry = s.entry; live = false }

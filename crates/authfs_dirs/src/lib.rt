@@ -4,6 +4,7 @@
 mod dirs;
 mod inode;
 mod kind;
+mod laws;
 mod listing;
 mod name_table;
 mod new_name;
@@ -14,5 +15,6 @@ mod tests;
 
 pub use dirs::{Dirs, MOST_MADE, MOST_NODES, ROOT};
 pub use kind::Kind;
+pub use laws::{children_are_found, tree_stays_sound};
 pub use listing::Listing;
 pub use new_name::NewName;
