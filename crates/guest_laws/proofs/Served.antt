@@ -58,7 +58,7 @@ row_fails items world t r _ _ (no_item beyond calm own) = inl calm
 row_fails items world t r _ _ (too_large there large calm own) = inl calm
 row_fails items world t r _ _ (served it bytes at small calm all slice) = inl calm
 row_fails items world t r _ _ (blamed it (cause.Mismatch x) at small blame order) = inl blame.failed
-row_fails items world t r _ _ (blamed it (cause.Short asked got) at small blame order) = inl blame.failed
+row_fails items world t r _ _ (blamed it (cause.Short asked got) at small blame order) = inl blame.short.failed
 row_fails items world t r _ _ (blamed it (cause.Failed faults) at small blame order) = inr (blame.failed, refl, faults, refl)
 row_fails items world t r _ _ (no_memory it at small scarce order) = inl scarce.failed
 

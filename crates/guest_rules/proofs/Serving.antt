@@ -18,6 +18,7 @@ use Rattle.sha_tree.proofs.Sound.{measured_tree}
 use Rattle.verity_path.specs.Calls.{call_for, asked_for}
 use Rattle.verity_path.specs.Pieces.{IsHashed}
 use Rattle.verity_path.specs.Walk.{IsMismatch}
+use Rattle.verity_path.proofs.Order.{last_in}
 use Rattle.verity_path.specs.Range.{IsSlice, IsReadBlame}
 use Rattle.verity_path.specs.declared.states.Mismatch.{Mismatch}
 use Rattle.verity_path.specs.declared.device.Cause.{Cause}
@@ -62,7 +63,7 @@ module _ (items : List Device) (world : World) (t : Trace) (h : Held) (r : ItemR
   -- no page differs
   not_mismatch : (x : Mismatch) → IsMismatch it.layout it.measure t x → ⊥
   not_mismatch x m =
-      let answer = held.each (call_for it.layout it.measure.blocks x.level x.index) (Bytes m.bytes) m.own in
+      let answer = held.each (call_for it.layout it.measure.blocks x.level x.index) (Bytes m.bytes) (last_in _ _ t.own m.own) in
       let low = m.expected.level_is in
       let page = page_held h it.measure content measured item.most it.layout x.level x.index holds (omega (arith, low)) m.expected.index answer.0 (Bytes m.bytes) answer.1 in
       let bytes : page.bytes ≡ m.bytes = bytes_is page.bytes m.bytes (sym page.said_is) in
@@ -87,7 +88,7 @@ module _ (items : List Device) (world : World) (t : Trace) (h : Held) (r : ItemR
   module _ (calm : t.failed ≡ 0) where
     not_blamed : (cause : Cause) → IsReadBlame it.layout it.measure (IsForItem it r) t cause → ⊥
     not_blamed (OfMismatch x) blame = not_mismatch x blame
-    not_blamed (Short asked got) blame = not_short asked got blame
+    not_blamed (Short asked got) blame = not_short asked got blame.short
     not_blamed (Failed faults) blame = let failed = blame.failed in absurd (omega (arith, calm, failed))
 
     defined : (sent : Sent) (cause : Option Cause) → ItemRow items world t r sent cause → IsDefined r content t.scarce sent cause

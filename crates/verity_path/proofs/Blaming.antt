@@ -4,7 +4,7 @@ use Rattle.std.specs.Prelude.{◌≢◌}
 use Rattle.host_traits.specs.declared.calls.Call.{Call}
 use Rattle.host_traits.specs.Told.{Told, Exchanges}
 use Rattle.host_traits.specs.Did.{Trace, trace_of, trace_after}
-use Rattle.host_traits.proofs.Doing.{in_right, short_later, failed_later, scarce_later, failed_so}
+use Rattle.host_traits.proofs.Doing.{failed_later, scarce_later, failed_so}
 use Rattle.sha_tree.specs.declared.measure.Measure.{Measure}
 use Rattle.sha_tree.specs.Tree.{page, page_hash}
 use Rattle.sha_tree.specs.Measured.{HasTree}
@@ -18,6 +18,7 @@ use Rattle.verity_path.specs.declared.states.Mismatch.{Mismatch}
 use Rattle.verity_path.specs.declared.walk.Layout.{Layout}
 use Rattle.verity_path.specs.declared.walk.WalkFault.{WalkFault}
 use Rattle.verity_path.specs.declared.walk.WalkFault.TheVariants as fault
+use Rattle.verity_path.proofs.Order.{last_later, last_short_later}
 use Rattle.verity_path.proofs.Walking.{piece_right}
 
 -- what is blamed in the later part of a work is blamed in the whole
@@ -27,12 +28,12 @@ blame_later layout m F a b c x y failed (fault.Mismatch w) le q = record {
   failed = q.failed;
   differ = q.differ;
   bytes = q.bytes;
-  own = in_right _ _ x y q.own;
+  own = last_later _ _ x y q.own;
   piece = q.piece;
   found = q.found;
   expected = derived_more (IsPiece y) (IsPiece (x ++ y)) m (piece_right x y) w.level w.index w.expected.0 q.expected;
 }
-blame_later layout m F a b c x y failed (fault.Short asked got) le q = short_later a b c x y failed asked got q
+blame_later layout m F a b c x y failed (fault.Short asked got) le q = last_short_later a b c x y failed asked got q
 blame_later layout m F a b c x y failed (fault.Failed faults) le q = failed_later F a b c x y failed faults le q
 blame_later layout m F a b c x y failed fault.Memory le q = scarce_later a b c x y failed q
 
@@ -49,13 +50,16 @@ blame_wider layout m F a b heard own failed (fault.Mismatch w) q = record {
   expected = derived_more (IsPiece own) (IsPiece (heard ++ own)) m (piece_right heard own) w.level w.index w.expected.0 q.expected;
 }
 blame_wider layout m F a b heard own failed (fault.Short asked got) q = record {
-  failed = q.failed;
-  call = q.call;
-  bytes = q.bytes;
-  own = q.own;
-  asks = q.asks;
-  got_is = q.got_is;
-  short = q.short;
+  short = record {
+    failed = q.short.failed;
+    call = q.short.call;
+    bytes = q.short.bytes;
+    own = q.short.own;
+    asks = q.short.asks;
+    got_is = q.short.got_is;
+    short = q.short.short;
+  };
+  last = q.last;
 }
 blame_wider layout m F a b heard own failed (fault.Failed faults) q = record {
   failed = q.failed;

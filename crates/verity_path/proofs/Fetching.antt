@@ -48,13 +48,16 @@ module _ (layout : Layout) (count level index : ℕ) (a : Place) (level_is : lev
       Did (IsCallFor layout count a.level a.index) 1 x y (FetchOutcome layout count a old new (Err (fault.Short piece.asked got)))
   short old new few same = once (FetchOutcome layout count a old new (Err (fault.Short piece.asked got))) (
     record {
-      failed = refl;
-      call = call_for layout count a.level a.index;
-      bytes = raw;
-      own = inl refl;
-      asks = kind_asked layout count a.level a.index ∙ ap kind_bytes (sym stands.asked);
-      got_is = got_is;
-      short = few;
+      short = record {
+        failed = refl;
+        call = call_for layout count a.level a.index;
+        bytes = raw;
+        own = inl refl;
+        asks = kind_asked layout count a.level a.index ∙ ap kind_bytes (sym stands.asked);
+        got_is = got_is;
+        short = few;
+      };
+      last = record { before = []; is = refl };
     },
     same,
   )
@@ -99,7 +102,7 @@ module _ (layout : Layout) (count level index : ℕ) (a : Place) (level_is : lev
         failed = refl;
         differ = differ;
         bytes = raw;
-        own = inl refl;
+        own = record { before = []; is = refl };
         piece = held;
         found = found ∙ ap (page_hash a.salt) page_is;
         expected = expected;

@@ -1,12 +1,13 @@
 -- The order of calls, of one call and of one piece of work after another.
-use Rattle.std.proofs.Common.{◌≡◌, ℕ, zero, suc, ◌+◌, ◌-◌, ◌<◌, ◌≤◌, ◌∙◌, min, List, [], ◌∷◌, ◌++◌, length, map, take, Option, Some, None, refl, ap, sym, subst, append_assoc, append-nil, arith}
+use Rattle.std.proofs.Common.{◌≡◌, ℕ, zero, suc, ◌+◌, ◌-◌, ◌<◌, ◌≤◌, ◌∙◌, min, List, [], ◌∷◌, ◌++◌, length, map, take, Option, Some, None, refl, ap, sym, subst, append_assoc, append-nil, arith, inl}
 use Rattle.std.specs.Prelude.{slice_get}
 use Rattle.std.proofs.lemmas.List.{length-take, length-append, take_all}
 use Rattle.host_traits.specs.declared.calls.Call.{Call}
 use Rattle.host_traits.specs.declared.calls.Said.{Said}
 use Rattle.host_traits.specs.Told.{Told, Made, Talked, Exchanges, heard_of, failures_of, last_after}
-use Rattle.host_traits.specs.Did.{Trace, trace_of, trace_after, Did, Each, reads}
-use Rattle.verity_path.specs.Order.{asked_in, IsInOrder}
+use Rattle.host_traits.specs.Did.{Trace, trace_of, trace_after, Did, Each, reads, IsIn}
+use Rattle.host_traits.proofs.Doing.{in_right}
+use Rattle.verity_path.specs.Order.{asked_in, IsInOrder, IsLast, IsLastShort}
 
 pub asked-append : (u v : Exchanges) → asked_in (u ++ v) ≡ asked_in u ++ asked_in v
 asked-append [] v = refl
@@ -103,4 +104,32 @@ did_in_order F call x y P only d = record {
   few = d.few;
   stops = d.stops;
   outcome = (one_order F call x y d.own only d.talked d.calls d.few, d.outcome);
+}
+
+-- ---- the last answer
+
+pub last_in : (call : Call) (said : Said) (heard : Exchanges) → IsLast call said heard → IsIn call said heard
+last_in call said heard l =
+    subst (IsIn call said) (sym l.is) (in_right call said l.before ((call, said) ∷ []) (inl refl))
+
+-- the last of a later part is the last of the whole
+pub last_later : (call : Call) (said : Said) (u v : Exchanges) → IsLast call said v → IsLast call said (u ++ v)
+last_later call said u v l = record {
+  before = u ++ l.before;
+  is = ap (λ (x : Exchanges). u ++ x) l.is ∙ sym (append_assoc u l.before ((call, said) ∷ []));
+}
+
+pub last_short_later : (a b c : Told) (u v : Exchanges) (failed asked got : ℕ) → IsLastShort (trace_of v failed b c) asked got
+    → IsLastShort (trace_of (u ++ v) failed a c) asked got
+last_short_later a b c u v failed asked got s = record {
+  short = record {
+    failed = s.short.failed;
+    call = s.short.call;
+    bytes = s.short.bytes;
+    own = in_right _ _ u v s.short.own;
+    asks = s.short.asks;
+    got_is = s.short.got_is;
+    short = s.short.short;
+  };
+  last = last_later s.short.call _ u v s.last;
 }

@@ -3,7 +3,7 @@ use Rattle.std.proofs.Common.{◌≡◌, ℕ, ◌+◌, ◌-◌, ◌/◌, ◌%◌
 use Rattle.host_traits.specs.declared.calls.Call.{Call}
 use Rattle.host_traits.specs.Told.{Told, Exchanges}
 use Rattle.host_traits.specs.Did.{Trace, trace_of, Did}
-use Rattle.host_traits.proofs.Doing.{in_left, in_right, did_none, did_so, did_then, short_later, failed_later, scarce_later, failed_so}
+use Rattle.host_traits.proofs.Doing.{in_left, in_right, did_none, did_so, did_then, failed_later, scarce_later, failed_so}
 use Rattle.sha_tree.specs.declared.measure.Measure.{Measure}
 use Rattle.sha_tree.specs.Tree.{block as content_block, ancestor, page_hash, slot, top}
 use Rattle.sha_tree.specs.Measured.{HasTree}
@@ -19,7 +19,7 @@ use Rattle.verity_path.specs.Walk.{IsWalkBlame, IsProved, WalkOutcome}
 use Rattle.verity_path.specs.declared.walk.Layout.{Layout}
 use Rattle.verity_path.specs.declared.walk.WalkFault.{WalkFault}
 use Rattle.verity_path.specs.declared.walk.WalkFault.TheVariants as fault
-use Rattle.verity_path.proofs.Order.{asked-append, did_in_order, later_order}
+use Rattle.verity_path.proofs.Order.{asked-append, did_in_order, later_order, last_later, last_short_later}
 
 pub piece_left : (x y : Exchanges) (p : List ℕ) → IsPiece x p → IsPiece (x ++ y) p
 piece_left x y p i = record { call = i.call; said = i.said; was_heard = in_left i.call i.said x y i.was_heard; piece = i.piece }
@@ -162,12 +162,12 @@ module _ (layout : Layout) (m : Measure) (block count : ℕ) (same : count ≡ m
         failed = q.failed;
         differ = q.differ;
         bytes = q.bytes;
-        own = rw (q.level_is, q.index_is, ← same) (in_right _ _ u v q.own);
+        own = rw (q.level_is, q.index_is, ← same) (last_later _ _ u v q.own);
         piece = rw (q.level_is, q.index_is, ← same) q.piece;
         found = rw (q.level_is, q.index_is, ← same, ← at.salt_is) q.found;
         expected = rw (level_is, index_is, q.expected) (derived_more (IsPiece u) (IsPiece (u ++ v)) m (piece_left u v) level (ancestor block level) a.digest d);
       }
-  blamed u v failed x y z a level (fault.Short asked got) le at d q = short_later x y z u v failed asked got q
+  blamed u v failed x y z a level (fault.Short asked got) le at d q = last_short_later x y z u v failed asked got q
   blamed u v failed x y z a level (fault.Failed faults) le at d q =
       failed_later (IsOnPath layout m block) x y z u v failed faults le
       (failed_so (IsCallFor layout count a.level a.index) (IsOnPath layout m block) _ faults (path a level at) q)

@@ -2,7 +2,9 @@
 use Rattle.std.specs.Prelude.{◌≡◌, ℕ, zero, suc, List, [], ◌∷◌, ◌++◌, length, map, take, slice_get, Some}
 use Rattle.host_traits.specs.declared.calls.Call.{Call}
 use Rattle.host_traits.specs.Told.{Exchanges}
-use Rattle.host_traits.specs.Did.{Trace}
+use Rattle.host_traits.specs.declared.calls.Said.{Said}
+use Rattle.host_traits.specs.declared.calls.Said.TheVariants.{Bytes}
+use Rattle.host_traits.specs.Did.{Trace, IsShort}
 use Rattle.sha_tree.specs.declared.measure.Measure.{Measure}
 use Rattle.sha_tree.specs.Tree.{ancestor, top}
 use Rattle.verity_path.specs.Calls.{call_for}
@@ -28,3 +30,13 @@ blocks_calls layout m block (suc n) = walk_calls layout m.blocks block (top m.bl
 pub record IsInOrder (asked : List Call) (t : Trace) : Type 0 where
   pub answered : asked_in t.own ≡ take (length t.own) asked
   pub failed : (call : Call) → t.failed ≡ 1 → t.last_failed ≡ Some call → slice_get asked (length t.own) ≡ Some call
+
+-- this is the last of some exchanges
+pub record IsLast (call : Call) (said : Said) (heard : Exchanges) : Type 0 where
+  pub before : Exchanges
+  pub is : heard ≡ before ++ (call, said) ∷ []
+
+-- no call failed, and the last answer of the work was shorter than asked
+pub record IsLastShort (t : Trace) (asked got : ℕ) : Type 0 where
+  pub short : IsShort t asked got
+  pub last : IsLast short.call (Bytes short.bytes) t.own

@@ -2,12 +2,12 @@
 use Rattle.std.specs.Prelude.{◌≡◌, ℕ, ◌+◌, ◌-◌, ◌*◌, ◌/◌, ◌%◌, ◌<◌, ◌≤◌, min, max, List, length, take, drop, slice_index, nat_lt, if◌then◌else◌, Option, Some, None, Result, Ok, Err}
 use Rattle.host_traits.specs.declared.calls.Call.{Call}
 use Rattle.host_traits.specs.Told.{Exchanges}
-use Rattle.host_traits.specs.Did.{Trace, IsShort, IsFailed}
+use Rattle.host_traits.specs.Did.{Trace, IsFailed}
 use Rattle.sha_tree.specs.declared.measure.Measure.{Measure}
 use Rattle.sha_tree.specs.Tree.{div_up, page_hash, top}
 use Rattle.sha_tree.specs.Path.{IsDerived}
 use Rattle.verity_path.specs.Calls.{IsOnPath}
-use Rattle.verity_path.specs.Order.{IsInOrder, asked_in, blocks_calls}
+use Rattle.verity_path.specs.Order.{IsInOrder, IsLastShort, asked_in, blocks_calls}
 use Rattle.verity_path.specs.Pieces.{IsPiece}
 use Rattle.verity_path.specs.Walk.{IsMismatch, IsWalkBlame}
 use Rattle.verity_path.specs.declared.walk.Layout.{Layout}
@@ -68,5 +68,5 @@ RangeSoFar layout m offset end index bytes t =
 -- the cause of a read that was not answered, in what was heard for it
 abbrev pub IsReadBlame : Layout → Measure → (Call → Type 0) → Trace → Cause → Type 0
 IsReadBlame layout m IsFor t (cause.Mismatch x) = IsMismatch layout m t x
-IsReadBlame layout m IsFor t (cause.Short asked got) = IsShort t asked got
+IsReadBlame layout m IsFor t (cause.Short asked got) = IsLastShort t asked got
 IsReadBlame layout m IsFor t (cause.Failed faults) = IsFailed IsFor t faults

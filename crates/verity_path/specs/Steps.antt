@@ -2,10 +2,11 @@
 use Rattle.std.specs.Prelude.{◌≡◌, ◌≢◌, ℕ, ◌+◌, ◌-◌, ◌*◌, ◌%◌, ◌≤◌, List, [], ◌∷◌, length, slice_range, Result, Ok, Err}
 use Rattle.host_traits.specs.declared.calls.Call.{Call}
 use Rattle.host_traits.specs.declared.calls.Said.TheVariants.{Bytes}
-use Rattle.host_traits.specs.Did.{IsIn, Trace, IsShort, IsFailed, IsScarce}
+use Rattle.host_traits.specs.Did.{Trace, IsFailed, IsScarce}
 use Rattle.sha_tree.specs.Tree.{ancestor, padded, page_hash, slot}
 use Rattle.verity_path.specs.States.{Place, Met}
 use Rattle.verity_path.specs.Calls.{call_for, piece_for, asked_for}
+use Rattle.verity_path.specs.Order.{IsLast, IsLastShort}
 use Rattle.verity_path.specs.Pieces.{IsPieceOf, IsPiece}
 use Rattle.verity_path.specs.declared.states.Mismatch.{Mismatch}
 use Rattle.verity_path.specs.declared.walk.Layout.{Layout}
@@ -40,7 +41,7 @@ pub record IsOther (layout : Layout) (count : ℕ) (a : Place) (t : Trace) (x : 
   pub failed : t.failed ≡ 0
   pub differ : x.expected.0 ≢ x.found.0
   pub bytes : List ℕ
-  pub own : IsIn (call_for layout count a.level a.index) (Bytes bytes) t.own
+  pub own : IsLast (call_for layout count a.level a.index) (Bytes bytes) t.own
   pub piece : IsPieceOf (call_for layout count a.level a.index) (Bytes bytes) (piece_for layout count a.level a.index bytes)
   pub found : x.found.0 ≡ page_hash a.salt (piece_for layout count a.level a.index bytes)
   pub expected : x.expected.0 ≡ a.digest
@@ -50,7 +51,7 @@ pub record IsOther (layout : Layout) (count : ℕ) (a : Place) (t : Trace) (x : 
 -- why a page was not fetched
 abbrev pub IsFetchBlame : Layout → ℕ → Place → Trace → WalkFault → Type 0
 IsFetchBlame layout count a t (fault.Mismatch x) = IsOther layout count a t x
-IsFetchBlame layout count a t (fault.Short asked got) = IsShort t asked got
+IsFetchBlame layout count a t (fault.Short asked got) = IsLastShort t asked got
 IsFetchBlame layout count a t (fault.Failed faults) = IsFailed (IsCallFor layout count a.level a.index) t faults
 IsFetchBlame layout count a t fault.Memory = IsScarce t
 
@@ -59,7 +60,7 @@ abbrev pub FetchOutcome : Layout → ℕ → Place → List ℕ → List ℕ →
 FetchOutcome layout count a old new (Ok _) t = IsFetched layout count a t new
 FetchOutcome layout count a old new (Err (fault.Mismatch x)) t =
     (w : IsOther layout count a t x) × (new ≡ piece_for layout count a.level a.index w.bytes)
-FetchOutcome layout count a old new (Err (fault.Short asked got)) t = IsShort t asked got × (new ≡ old)
+FetchOutcome layout count a old new (Err (fault.Short asked got)) t = IsLastShort t asked got × (new ≡ old)
 FetchOutcome layout count a old new (Err (fault.Failed faults)) t = IsFailed (IsCallFor layout count a.level a.index) t faults × (new ≡ old)
 FetchOutcome layout count a old new (Err fault.Memory) t = IsScarce t × (new ≡ old)
 

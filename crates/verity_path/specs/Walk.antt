@@ -2,14 +2,14 @@
 use Rattle.std.specs.Prelude.{◌≡◌, ◌≢◌, ℕ, List, length, Result, Ok, Err}
 use Rattle.host_traits.specs.declared.calls.Call.{Call}
 use Rattle.host_traits.specs.declared.calls.Said.TheVariants.{Bytes}
-use Rattle.host_traits.specs.Did.{IsIn, Trace, IsShort, IsFailed, IsScarce}
+use Rattle.host_traits.specs.Did.{Trace, IsFailed, IsScarce}
 use Rattle.sha_tree.specs.declared.measure.Measure.{Measure}
 use Rattle.sha_tree.specs.Tree.{block, page_hash, top}
 use Rattle.sha_tree.specs.Measured.{HasTree}
 use Rattle.sha_tree.specs.Path.{IsDerived, NoClash}
 use Rattle.verity_path.specs.States.{Met, IsMet}
 use Rattle.verity_path.specs.Calls.{IsOnPath, call_for, piece_for}
-use Rattle.verity_path.specs.Order.{IsInOrder, asked_in, walk_calls}
+use Rattle.verity_path.specs.Order.{IsInOrder, IsLast, IsLastShort, asked_in, walk_calls}
 use Rattle.verity_path.specs.Pieces.{IsPieceOf, IsPiece, IsHashed}
 use Rattle.verity_path.specs.declared.states.Mismatch.{Mismatch}
 use Rattle.verity_path.specs.declared.walk.Layout.{Layout}
@@ -17,12 +17,12 @@ use Rattle.verity_path.specs.declared.walk.WalkFault.{WalkFault}
 use Rattle.verity_path.specs.declared.walk.WalkFault.TheVariants as fault
 
 -- The page at a place has another hash than the digest that what was heard ties to that place: the hash that was found is
--- that of the piece at the page's place in an answer of this work to the call for that page. No call of this work failed.
+-- that of the piece at the page's place in the last answer of this work, to the call for that page. No call of this work failed.
 pub record IsMismatch (layout : Layout) (m : Measure) (t : Trace) (x : Mismatch) : Type 0 where
   pub failed : t.failed ≡ 0
   pub differ : x.expected.0 ≢ x.found.0
   pub bytes : List ℕ
-  pub own : IsIn (call_for layout m.blocks x.level x.index) (Bytes bytes) t.own
+  pub own : IsLast (call_for layout m.blocks x.level x.index) (Bytes bytes) t.own
   pub piece : IsPieceOf (call_for layout m.blocks x.level x.index) (Bytes bytes) (piece_for layout m.blocks x.level x.index bytes)
   pub found : x.found.0 ≡ page_hash m.salt (piece_for layout m.blocks x.level x.index bytes)
   pub expected : IsDerived (IsPiece t.heard) m x.level x.index x.expected.0
@@ -30,7 +30,7 @@ pub record IsMismatch (layout : Layout) (m : Measure) (t : Trace) (x : Mismatch)
 -- why a walk whose calls are such came to no page, in what was heard in it
 abbrev pub IsWalkBlame : Layout → Measure → (Call → Type 0) → Trace → WalkFault → Type 0
 IsWalkBlame layout m IsFor t (fault.Mismatch x) = IsMismatch layout m t x
-IsWalkBlame layout m IsFor t (fault.Short asked got) = IsShort t asked got
+IsWalkBlame layout m IsFor t (fault.Short asked got) = IsLastShort t asked got
 IsWalkBlame layout m IsFor t (fault.Failed faults) = IsFailed IsFor t faults
 IsWalkBlame layout m IsFor t fault.Memory = IsScarce t
 
