@@ -15,3 +15,6 @@ pub use crate::answer::FuseAnswer;
 pub use crate::files::Files;
 pub use crate::laws::names_stay_served;
 pub use crate::server::Server;
+
+#[cfg(test)]
+mod tests;

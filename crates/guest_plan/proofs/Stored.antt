@@ -1,10 +1,8 @@
 -- What is read as a store list is in its grammar, and what is in the grammar is read.
-use Rattle.std.proofs.Common.{◌≡◌, ◌<◌, ◌≤◌, ◌+◌, ℕ, List, [], ◌∷◌, ◌++◌, length, Bool, true, false, not, cond, ltb, eqb, Option, Some, None, Result, Ok, Err, refl, sym, ap, subst, ◌∙◌, arith, inl, inr}
+use Rattle.std.proofs.Common.{◌≡◌, ◌<◌, ℕ, List, [], true, Result, Ok, Err, refl, sym, ap, subst, ◌∙◌, arith, inl, inr}
 use Rattle.std.specs.Prelude.{codes, IfOk}
-use Rattle.std.specs.List.{list_all}
 use Rattle.std.specs.Str.{bytes_eq}
 use Rattle.std.specs.Fmt.{decimal}
-use Rattle.std.proofs.lemmas.List.Folds.{list_all-append}
 use Rattle.text_lines.specs.declared.kinds.PlanKind.{PlanKind}
 use Rattle.text_lines.specs.declared.kinds.PlanKind.TheVariants as kinds
 use Rattle.text_lines.specs.declared.kinds.PlanFault.{PlanFault}
@@ -12,7 +10,7 @@ use Rattle.text_lines.specs.Fields.{◌>>=◌, first_field, two_fields, three_fi
 use Rattle.text_lines.specs.Values.{page_salt, folder_name_of, is_folder_name}
 use Rattle.text_lines.specs.Lists.{add_apart, complete_by, completed, list_of}
 use Rattle.text_lines.proofs.Lists.{completed_ok}
-use Rattle.text_lines.specs.Spelling.{◌then◌, salt_text, IsSalt, IsText}
+use Rattle.text_lines.specs.Spelling.{◌then◌, salt_text}
 use Rattle.text_lines.proofs.Numbers.{bind_ok, chosen, text_is, number_takes, number_again, salt_takes, salt_again, folder_name_takes, folder_name_again}
 use Rattle.text_lines.proofs.Fielded.{Free, two_take, three_take, four_take, first_again, two_again, three_again, four_again, OneLine}
 use Rattle.text_lines.proofs.Printed.{free, one, printed, then_one, salt_printed, decimal_printed, name_bytes_printed}

@@ -1,10 +1,8 @@
 -- What is read is in the grammar, and what is in the grammar is read.
-use Rattle.std.proofs.Common.{◌≡◌, ◌<◌, ◌≤◌, ◌+◌, ℕ, List, [], ◌∷◌, ◌++◌, length, Bool, true, false, not, cond, ltb, eqb, Option, Some, None, Result, Ok, Err, refl, sym, ap, subst, ◌∙◌, arith, inl, inr}
+use Rattle.std.proofs.Common.{◌≡◌, ℕ, List, true, Option, Some, None, Result, Ok, Err, refl, sym, ap, subst, ◌∙◌, arith, inl, inr}
 use Rattle.std.specs.Prelude.{codes, IfOk}
-use Rattle.std.specs.List.{list_all}
 use Rattle.std.specs.Str.{bytes_eq}
 use Rattle.std.specs.Fmt.{decimal}
-use Rattle.std.proofs.lemmas.List.Folds.{list_all-append}
 use Rattle.hex.specs.Hex.{encode_lower}
 use Rattle.mg_base.specs.declared.values.Guid.{Guid}
 use Rattle.sha_tree.specs.declared.measure.Measure.{Measure}
@@ -17,9 +15,9 @@ use Rattle.text_lines.specs.Values.{number_in, hex_of, page_salt, name_of, part_
 use Rattle.text_lines.specs.Lines.{adds, text_of}
 use Rattle.text_lines.specs.Lists.{complete_by, completed}
 use Rattle.text_lines.proofs.Lists.{completed_ok}
-use Rattle.text_lines.specs.Spelling.{◌then◌, salt_text, IsHexed, IsText}
+use Rattle.text_lines.specs.Spelling.{◌then◌, salt_text, IsHexed}
 use Rattle.text_lines.proofs.Numbers.{bind_ok, chosen, text_is, number_takes, number_again, hex_takes, hex_again, salt_takes, salt_again, name_takes, name_again, part_takes, part_again}
-use Rattle.text_lines.proofs.Fielded.{Free, field_takes, last_takes, field_again, two_take, three_take, four_take, five_take, first_again, two_again, three_again, four_again, five_again, OneLine}
+use Rattle.text_lines.proofs.Fielded.{Free, field_takes, field_again, two_take, three_take, four_take, five_take, first_again, two_again, three_again, four_again, five_again, OneLine}
 use Rattle.text_lines.proofs.Printed.{free, hex_printed, one, printed, then_one, salt_printed, decimal_printed, name_bytes_printed}
 use Rattle.text_lines.proofs.Spelled.{name_printed, part_printed}
 use Rattle.text_lines.proofs.Whole.{IsRead, text_takes, text_again}
@@ -31,7 +29,7 @@ use Rattle.guest_plan.specs.declared.plan.Item.TheVariants.{Secret, InstanceSalt
 use Rattle.guest_plan.specs.declared.plan.Plan.{Plan}
 use Rattle.guest_plan.specs.Items.{host_number, uuid_of, measure_of, secret_of, instance_salt_of, instance_of, blob_of, file_of, named_file_of, write_of, writedir_of, apk_fields, places_of, apk_fixed_of, apk_first_of, apk_kept_of, apk_by, apk_of, item_of}
 use Rattle.guest_plan.specs.Plans.{Known, nothing, add, missing, plan_header, plan_of, known, Tells}
-use Rattle.guest_plan.specs.Spelling.{IsDevice, IsMeasuredBy, IsHostNumber, IsServed, IsItem, measure_text, how_text, line_text, item_text, IsPlan}
+use Rattle.guest_plan.specs.Spelling.{IsDevice, IsMeasuredBy, IsHostNumber, IsItem, measure_text, how_text, item_text, IsPlan}
 use Rattle.guest_plan.proofs.Uuids.{uuid_takes, uuid_again, guid_printed}
 
 ok_is : {A : Type 0} (x y : A) → let r : Result A PlanKind = Ok x in r ≡ Ok y → x ≡ y

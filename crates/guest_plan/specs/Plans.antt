@@ -5,7 +5,6 @@ use Rattle.std.specs.Str.{bytes_eq}
 use Rattle.text_lines.specs.declared.kinds.PlanKind.{PlanKind}
 use Rattle.text_lines.specs.declared.kinds.PlanKind.TheVariants as kinds
 use Rattle.text_lines.specs.declared.kinds.PlanFault.{PlanFault}
-use Rattle.text_lines.specs.Fields.{◌>>=◌}
 use Rattle.text_lines.specs.Lines.{adds, text_of, Refuses}
 use Rattle.text_lines.specs.Lists.{completed}
 use Rattle.guest_plan.specs.declared.plan.How.{How}

@@ -1,5 +1,5 @@
 -- No value that a line spells has a space or a line feed in it.
-use Rattle.std.proofs.Common.{◌≡◌, ◌<◌, ◌/◌, ◌%◌, ◌^◌, ℕ, zero, suc, List, [], ◌∷◌, ◌++◌, length, get_or, Bool, true, false, ◌&&◌, not, ltb, eqb, refl, arith, rules}
+use Rattle.std.proofs.Common.{◌≡◌, ◌<◌, ◌/◌, ◌%◌, ◌^◌, ℕ, zero, suc, List, [], ◌∷◌, length, get_or, Bool, true, false, ◌&&◌, not, ltb, eqb, refl, arith, rules}
 use Rattle.std.proofs.lemmas.Bool.{ltb-true, lt-ltb, eqb-true}
 use Rattle.std.specs.Char.{is_ascii_digit}
 use Rattle.std.specs.Str.{all_ascii_digits}
