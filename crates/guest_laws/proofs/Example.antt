@@ -1,5 +1,5 @@
 -- A host that a store list makes, and a plan that it fits: a content of two blocks, as a blob and as a file by its digest. Its
--- file at the host is the store's by a `verity` line.
+-- two files at the host are the store's by `verity` lines.
 use Rattle.std.proofs.Common.{◌≡◌, ℕ, zero, suc, ◌*◌, ◌<◌, ◌≤◌, true, List, [], ◌∷◌, length, Some, None, refl, subst, sym, arith}
 use Rattle.std.specs.Prelude.{Option, slice_get, replicate, ◌==◌, if◌then◌else◌}
 use Rattle.std.proofs.lemmas.Bool.Decides.{nat_tests}
@@ -27,13 +27,13 @@ module _ (content : List ℕ) (len : length content ≡ 8192) where
   measure = record { blocks = 2; salt = []; root = record { 0 = root content [] } }
 
   abbrev pub held : Held
-  held = with_file nothing 1 (verity_file content [])
+  held = with_file (with_file nothing 1 (verity_file content [])) 2 (verity_file content [])
 
   abbrev pub digest : Digest
   digest = record { 0 = sha256 (descriptor_bytes (descriptor_of content [])) }
 
   abbrev pub plan : List PlanLine
-  plan = line.Blob 1 measure ∷ line.File (97 ∷ []) 1 digest ∷ []
+  plan = line.Blob 1 measure ∷ line.File (97 ∷ []) 2 digest ∷ []
 
   abbrev pub world : World
   world k = if k == 0 then Some content else None
@@ -70,7 +70,7 @@ module _ (content : List ℕ) (len : length content ≡ 8192) where
   unfolding verity_file
   descriptor_held = refl
 
-  digest_held : FitsFile held 1 digest
+  digest_held : FitsFile held 2 digest
   digest_held = record {
     bytes = content;
     salt = [];
@@ -89,10 +89,10 @@ module _ (content : List ℕ) (len : length content ≡ 8192) where
 
   file_held : (k : ℕ) (name : List ℕ) (file : ℕ) (d : Digest) → slice_get plan k ≡ Some (line.File name file d) → FitsFile held file d
   file_held zero name file d at = let same = same_line (line.Blob 1 measure) (line.File name file d) at in absurd cc
-  file_held (suc zero) name file d at = subst IsHeldFile (same_line (line.File (97 ∷ []) 1 digest) (line.File name file d) at) digest_held
+  file_held (suc zero) name file d at = subst IsHeldFile (same_line (line.File (97 ∷ []) 2 digest) (line.File name file d) at) digest_held
   file_held (suc (suc k)) name file d at = absurd cc
 
-  -- the host of that file holds what the plan needs
+  -- the host of those files holds what the plan needs
   pub blob_fits : Fits plan world held
   blob_fits = record {
     items = item_held;

@@ -3,15 +3,15 @@ ghost use Rattle.guest_laws.specs.Fitting.{ApkReadsAreServed};
 ghost use Rattle.guest_laws.specs.Passing.{BootsPass};
 ghost use Rattle.guest_laws.specs.Sessions.{BootsAreServed, SessionsAreServed};
 
-/// Over an honest host that holds what each line of the plan needs, boot opens all lines, or there was no memory; and what is
-/// held stays. Its contract is the law; it does nothing.
+/// Over a host that holds what each line of the plan needs, and is honest or of whose calls none failed, boot opens all lines, or
+/// there was no memory; and what is held stays. Its contract is the law; it does nothing.
 pub fn boots_pass()
     ensures { BootsPass }
 {}
 
-/// Where what the host holds has an APK's content at an `apk` line, and the answers of boot for the line's disk and those of a
-/// read of its device are what is held, the read has its defined reply, or want of memory, unless a call fails in it. Its
-/// contract is the law; it does nothing.
+/// In a world that meets the premises, where what the host holds has an APK's content at an `apk` line, and the answers of boot for
+/// the line's disk and those of a read of its device are what is held, the read has its defined reply, or want of memory, or a
+/// call of it failed and is its cause. Its contract is the law; it does nothing.
 pub fn apk_reads_are_served()
     ensures { ApkReadsAreServed }
 {}
@@ -22,8 +22,9 @@ pub fn boots_are_served()
     ensures { BootsAreServed }
 {}
 
-/// A session of `serve`, over a host that holds what each line of the plan needs: each read of an item has its defined reply,
-/// or want of memory, and none has a cause. Its contract is the law; it does nothing.
+/// A session of `serve` over the host that a store list makes, in a world that meets the premises: each read of an item that the
+/// host holds as the item's line needs it has its defined reply, or want of memory, and none has a cause. Its contract is the law;
+/// it does nothing.
 pub fn sessions_are_served()
     ensures { SessionsAreServed }
 {}

@@ -83,6 +83,7 @@ module _ (layout : Layout) (count level index : ℕ) (a : Place) (level_is : lev
       failed = refl;
       bytes = raw;
       own = refl;
+      whole = whole ∙ stands.asked;
       is = page_is;
       piece = record {
         call = call_for layout count a.level a.index;
@@ -103,6 +104,7 @@ module _ (layout : Layout) (count level index : ℕ) (a : Place) (level_is : lev
         differ = differ;
         bytes = raw;
         own = record { before = []; is = refl };
+        whole = whole ∙ stands.asked;
         piece = held;
         found = found ∙ ap (page_hash a.salt) page_is;
         expected = expected;

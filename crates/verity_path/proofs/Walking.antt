@@ -163,6 +163,7 @@ module _ (layout : Layout) (m : Measure) (block count : ℕ) (same : count ≡ m
         differ = q.differ;
         bytes = q.bytes;
         own = rw (q.level_is, q.index_is, ← same) (last_later _ _ u v q.own);
+        whole = rw (q.level_is, q.index_is, ← same) q.whole;
         piece = rw (q.level_is, q.index_is, ← same) q.piece;
         found = rw (q.level_is, q.index_is, ← same, ← at.salt_is) q.found;
         expected = rw (level_is, index_is, q.expected) (derived_more (IsPiece u) (IsPiece (u ++ v)) m (piece_left u v) level (ancestor block level) a.digest d);

@@ -31,6 +31,7 @@ pub record IsFetched (layout : Layout) (count : ℕ) (a : Place) (t : Trace) (p 
   pub failed : t.failed ≡ 0
   pub bytes : List ℕ
   pub own : t.own ≡ (call_for layout count a.level a.index, Bytes bytes) ∷ []
+  pub whole : length bytes ≡ asked_for layout count a.level a.index
   pub is : p ≡ piece_for layout count a.level a.index bytes
   pub piece : IsPiece t.own p
   pub len : length p ≡ 4096
@@ -42,6 +43,7 @@ pub record IsOther (layout : Layout) (count : ℕ) (a : Place) (t : Trace) (x : 
   pub differ : x.expected.0 ≢ x.found.0
   pub bytes : List ℕ
   pub own : IsLast (call_for layout count a.level a.index) (Bytes bytes) t.own
+  pub whole : length bytes ≡ asked_for layout count a.level a.index
   pub piece : IsPieceOf (call_for layout count a.level a.index) (Bytes bytes) (piece_for layout count a.level a.index bytes)
   pub found : x.found.0 ≡ page_hash a.salt (piece_for layout count a.level a.index bytes)
   pub expected : x.expected.0 ≡ a.digest

@@ -8,7 +8,7 @@ use Rattle.sha_tree.specs.Tree.{block, page_hash, top}
 use Rattle.sha_tree.specs.Measured.{HasTree}
 use Rattle.sha_tree.specs.Path.{IsDerived, NoClash}
 use Rattle.verity_path.specs.States.{Met, IsMet}
-use Rattle.verity_path.specs.Calls.{IsOnPath, call_for, piece_for}
+use Rattle.verity_path.specs.Calls.{IsOnPath, asked_for, call_for, piece_for}
 use Rattle.verity_path.specs.Order.{IsInOrder, IsLast, IsLastShort, asked_in, walk_calls}
 use Rattle.verity_path.specs.Pieces.{IsPieceOf, IsPiece, IsHashed}
 use Rattle.verity_path.specs.declared.states.Mismatch.{Mismatch}
@@ -17,12 +17,14 @@ use Rattle.verity_path.specs.declared.walk.WalkFault.{WalkFault}
 use Rattle.verity_path.specs.declared.walk.WalkFault.TheVariants as fault
 
 -- The page at a place has another hash than the digest that what was heard ties to that place: the hash that was found is
--- that of the piece at the page's place in the last answer of this work, to the call for that page. No call of this work failed.
+-- that of the piece at the page's place in the last answer of this work, to the call for that page, which is as long as asked. No
+-- call of this work failed.
 pub record IsMismatch (layout : Layout) (m : Measure) (t : Trace) (x : Mismatch) : Type 0 where
   pub failed : t.failed ≡ 0
   pub differ : x.expected.0 ≢ x.found.0
   pub bytes : List ℕ
   pub own : IsLast (call_for layout m.blocks x.level x.index) (Bytes bytes) t.own
+  pub whole : length bytes ≡ asked_for layout m.blocks x.level x.index
   pub piece : IsPieceOf (call_for layout m.blocks x.level x.index) (Bytes bytes) (piece_for layout m.blocks x.level x.index bytes)
   pub found : x.found.0 ≡ page_hash m.salt (piece_for layout m.blocks x.level x.index bytes)
   pub expected : IsDerived (IsPiece t.heard) m x.level x.index x.expected.0
