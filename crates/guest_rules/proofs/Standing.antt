@@ -9,7 +9,7 @@ use Rattle.sha_tree.specs.Path.{NoClash}
 use Rattle.sha_tree.proofs.Sound.{measured_tree}
 use Rattle.verity_path.specs.Pieces.{IsHashed}
 use Rattle.verity_path.specs.Range.{IsCut, IsSlice, end_of}
-use Rattle.verity_path.proofs.Walking.{piece_left}
+use Rattle.verity_path.proofs.Pieces.{piece_left}
 use Rattle.verity_path.proofs.Ranges.{cut_content}
 use Rattle.verity_path.specs.declared.device.Cause.{Cause}
 use Rattle.verity_path.specs.declared.device.Device.{Device}
