@@ -41,12 +41,12 @@ module _ (items : List Device) (state : State) (a b : Told) (payload : List ℕ)
 
   pub read_step : (bytes : List ℕ) (r : Result (Unit {0}) WalkFault) → Work bytes r → Stepped items state state a b (read_frame payload) (sent_of (answer_to_read r).reply bytes) (answer_to_read r).cause
   read_step bytes (Ok u) d = stepped items state state a b (read_frame payload) _ _ _ _ _ d (λ call for. (it, at, for)) few
-      (λ heard own failed cut. (refl, served it bytes at fits cut.0 cut.2 (cut_wider heard own it.measure _ _ bytes cut.1)))
+      (λ heard own failed cut. (refl, served it bytes at fits cut.0 cut.2 cut.3 (cut_wider heard own it.measure _ _ bytes cut.1)))
   read_step bytes (Err (fault.Mismatch x)) d = stepped items state state a b (read_frame payload) _ _ _ _ _ d (λ call for. (it, at, for)) few
-      (λ heard own failed blame. (refl, blamed it (cause.Mismatch x) at fits (blame_wider it.layout it.measure (IsForItem it (item_read payload)) a b heard own failed (fault.Mismatch x) blame.0) (order_wider (item_calls it (item_read payload)) a b heard own failed blame.1)))
+      (λ heard own failed blame. (refl, blamed it (cause.Mismatch x) at fits (blame_wider it.layout it.measure (IsForItem it (item_read payload)) a b heard own failed (fault.Mismatch x) blame.0) (order_wider (item_calls it (item_read payload)) a b heard own failed blame.1) blame.2))
   read_step bytes (Err (fault.Short asked got)) d = stepped items state state a b (read_frame payload) _ _ _ _ _ d (λ call for. (it, at, for)) few
-      (λ heard own failed blame. (refl, blamed it (cause.Short asked got) at fits (blame_wider it.layout it.measure (IsForItem it (item_read payload)) a b heard own failed (fault.Short asked got) blame.0) (order_wider (item_calls it (item_read payload)) a b heard own failed blame.1)))
+      (λ heard own failed blame. (refl, blamed it (cause.Short asked got) at fits (blame_wider it.layout it.measure (IsForItem it (item_read payload)) a b heard own failed (fault.Short asked got) blame.0) (order_wider (item_calls it (item_read payload)) a b heard own failed blame.1) blame.2))
   read_step bytes (Err (fault.Failed faults)) d = stepped items state state a b (read_frame payload) _ _ _ _ _ d (λ call for. (it, at, for)) few
-      (λ heard own failed blame. (refl, blamed it (cause.Failed faults) at fits (blame_wider it.layout it.measure (IsForItem it (item_read payload)) a b heard own failed (fault.Failed faults) blame.0) (order_wider (item_calls it (item_read payload)) a b heard own failed blame.1)))
+      (λ heard own failed blame. (refl, blamed it (cause.Failed faults) at fits (blame_wider it.layout it.measure (IsForItem it (item_read payload)) a b heard own failed (fault.Failed faults) blame.0) (order_wider (item_calls it (item_read payload)) a b heard own failed blame.1) blame.2))
   read_step bytes (Err fault.Memory) d = stepped items state state a b (read_frame payload) _ _ _ _ _ d (λ call for. (it, at, for)) few
-      (λ heard own failed none. (refl, no_memory it at fits (record { failed = none.0.failed; scarce = none.0.scarce }) (order_wider (item_calls it (item_read payload)) a b heard own failed none.1)))
+      (λ heard own failed none. (refl, no_memory it at fits (record { failed = none.0.failed; scarce = none.0.scarce }) (order_wider (item_calls it (item_read payload)) a b heard own failed none.1) none.2))

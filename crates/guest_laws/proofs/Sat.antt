@@ -12,7 +12,7 @@ use Rattle.host_traits.proofs.Doing.{each_so}
 use Rattle.sha_tree.specs.declared.measure.Measure.{Measure}
 use Rattle.sha_tree.specs.Tree.{ancestor}
 use Rattle.verity_path.specs.declared.device.Device.{Device}
-use Rattle.verity_path.proofs.Walking.{piece_left}
+use Rattle.verity_path.proofs.Pieces.{piece_left}
 use Rattle.guest_plan.specs.declared.plan.PlanLine.{PlanLine}
 use Rattle.guest_plan.specs.declared.plan.PlanLine.TheVariants as line
 use Rattle.guest_boot.specs.Booting.{AreServed, Booted, Boots, LineBoots, device_on, nothing}

@@ -56,11 +56,11 @@ row_fails : (items : List Device) (world : World) (t : Trace) (r : ItemRead) (se
     → (t.failed ≡ 0) ⊎ ((t.failed ≡ 1) × (sent ≡ sent_code 1 5) × (faults : ℕ) × (why ≡ Some (cause.Failed faults)))
 row_fails items world t r _ _ (no_item beyond calm own) = inl calm
 row_fails items world t r _ _ (too_large there large calm own) = inl calm
-row_fails items world t r _ _ (served it bytes at small calm all slice) = inl calm
-row_fails items world t r _ _ (blamed it (cause.Mismatch x) at small blame order) = inl blame.failed
-row_fails items world t r _ _ (blamed it (cause.Short asked got) at small blame order) = inl blame.short.failed
-row_fails items world t r _ _ (blamed it (cause.Failed faults) at small blame order) = inr (blame.failed, refl, faults, refl)
-row_fails items world t r _ _ (no_memory it at small scarce order) = inl scarce.failed
+row_fails items world t r _ _ (served it bytes at small calm all right slice) = inl calm
+row_fails items world t r _ _ (blamed it (cause.Mismatch x) at small blame order right) = inl blame.failed
+row_fails items world t r _ _ (blamed it (cause.Short asked got) at small blame order right) = inl blame.short.failed
+row_fails items world t r _ _ (blamed it (cause.Failed faults) at small blame order right) = inr (blame.failed, refl, faults, refl)
+row_fails items world t r _ _ (no_memory it at small scarce order right) = inl scarce.failed
 
 turn_fails : (items : List Device) (world : World) (old : Moment) (turn : Turn) (new : Moment) (r : ItemRead) → Step items world old turn new
     → request_of turn.frame ≡ read_of r → (failures_of turn.own ≡ 0) ⊎ HasFailed turn

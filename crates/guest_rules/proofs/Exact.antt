@@ -26,10 +26,10 @@ same_cause a b e = cc
 failed_in : (items : List Device) (world : World) (t : Trace) (r : ItemRead) (sent : Sent) (cause : Option Cause) (faults : ℕ) → ItemRow items world t r sent cause → cause ≡ Some (Failed faults) → t.failed ≡ 1
 failed_in items world t r sent cause faults (no_item absent none own) e = absurd cc
 failed_in items world t r sent cause faults (too_large there large none own) e = absurd cc
-failed_in items world t r sent cause faults (served it bytes at fits none all shown) e = absurd cc
-failed_in items world t r sent cause faults (blamed it c at fits blame order) e =
+failed_in items world t r sent cause faults (served it bytes at fits none all right shown) e = absurd cc
+failed_in items world t r sent cause faults (blamed it c at fits blame order right) e =
     let failed = subst (λ z. IsReadBlame it.layout it.measure (IsForItem it r) t z) (same_cause c (Failed faults) e) blame in failed.failed
-failed_in items world t r sent cause faults (no_memory it at fits scarce order) e = absurd cc
+failed_in items world t r sent cause faults (no_memory it at fits scarce order right) e = absurd cc
 
 failed_row : (items : List Device) (world : World) (t : Trace) (request : Request) (a b : State) (sent : Sent) (cause : Option Cause) (faults : ℕ) → Row items world t request a b sent cause → cause ≡ Some (Failed faults) → t.failed ≡ 1
 failed_row items world t (read_of r) a b sent cause faults row e = failed_in items world t r sent cause faults row.1 e

@@ -94,12 +94,12 @@ module _ (items : List Device) (world : World) (t : Trace) (h : Held) (r : ItemR
     defined : (sent : Sent) (cause : Option Cause) → ItemRow items world t r sent cause → IsDefined r content t.scarce sent cause
     defined sent cause (no_item absent none own) = absurd (omega (arith, slice_get_within items r.item it at))
     defined sent cause (too_large there large none own) = over_limit large
-    defined sent cause (served other bytes there fits none all shown) =
+    defined sent cause (served other bytes there fits none all right shown) =
         rw (← slice_is (world r.item) content t other r bytes is shown) (whole fits)
-    defined sent cause (blamed other c there fits blame order) =
+    defined sent cause (blamed other c there fits blame order right) =
         let same : other ≡ it = same_item other it (sym there ∙ at) in
         absurd (not_blamed c (subst (λ (z : Device). IsReadBlame z.layout z.measure (IsForItem z r) t c) same blame))
-    defined sent cause (no_memory other there fits scarce order) = no_room fits scarce.scarce
+    defined sent cause (no_memory other there fits scarce order right) = no_room fits scarce.scarce
 
 -- the item's row of a read
 row_of : (items : List Device) (world : World) (t : Trace) (request : Request) (old new : State) (sent : Sent) (cause : Option Cause) (r : ItemRead) → request ≡ read_of r

@@ -9,7 +9,7 @@ use Rattle.sha_tree.specs.Path.{NoClash}
 use Rattle.sha_tree.proofs.Sound.{measured_tree}
 use Rattle.verity_path.specs.Pieces.{IsHashed}
 use Rattle.verity_path.specs.Range.{IsCut, IsSlice, end_of}
-use Rattle.verity_path.proofs.Walking.{piece_left}
+use Rattle.verity_path.proofs.Pieces.{piece_left}
 use Rattle.verity_path.proofs.Ranges.{cut_content}
 use Rattle.verity_path.specs.declared.device.Cause.{Cause}
 use Rattle.verity_path.specs.declared.device.Device.{Device}
@@ -43,13 +43,13 @@ module _ (items : List Device) (world : World) where
       → ItemRow items nowhere t r sent cause → ItemRow items world t r sent cause
   item_in t r sent cause w (no_item absent none own) = no_item absent none own
   item_in t r sent cause w (too_large there large none own) = too_large there large none own
-  item_in t r sent cause w (served it bytes at fits none all shown) =
-      served it bytes at fits none all (by_content (world r.item) t.heard it.measure (size_of it) r.offset r.size bytes shown (λ content is.
+  item_in t r sent cause w (served it bytes at fits none all right shown) =
+      served it bytes at fits none all right (by_content (world r.item) t.heard it.measure (size_of it) r.offset r.size bytes shown (λ content is.
       let measured = w.measured r.item it content at is in
       let apart : NoClash (IsHashed t.heard content it.measure.salt) = λ x y hx hy. w.no_clash x y (item_hashed items world t.heard r.item it content at is x hx) (item_hashed items world t.heard r.item it content at is y hy) in
       cut_content it.measure t.heard content (size_of it) r.offset r.size bytes (measured_tree it.measure content measured) apart (sym measured.size) shown))
-  item_in t r sent cause w (blamed it c at fits blame order) = blamed it c at fits blame order
-  item_in t r sent cause w (no_memory it at fits scarce order) = no_memory it at fits scarce order
+  item_in t r sent cause w (blamed it c at fits blame order right) = blamed it c at fits blame order right
+  item_in t r sent cause w (no_memory it at fits scarce order right) = no_memory it at fits scarce order right
 
   row_in : (t : Trace) (request : Request) (old new : State) (sent : Sent) (cause : Option Cause) → IsWorld items world t.heard
       → Row items nowhere t request old new sent cause → Row items world t request old new sent cause

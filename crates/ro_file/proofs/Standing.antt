@@ -12,7 +12,7 @@ use Rattle.sha_tree.specs.Tree.{block_count, root, page, pages_at}
 use Rattle.sha_tree.specs.Path.{NoClash}
 use Rattle.sha_tree.proofs.Pages.{length-page_hash}
 use Rattle.verity_path.specs.Pieces.{IsHashed}
-use Rattle.verity_path.proofs.Walking.{piece_left}
+use Rattle.verity_path.proofs.Pieces.{piece_left}
 use Rattle.verity_path.proofs.Ranges.{cut_content}
 use Rattle.verity_path.proofs.Blaming.{mismatch_lies}
 use Rattle.verity_descriptor.specs.declared.Descriptor.{Descriptor}

@@ -19,7 +19,7 @@ use Rattle.verity_path.specs.declared.walk.Layout.{Layout}
 use Rattle.verity_path.specs.declared.walk.WalkFault.{WalkFault}
 use Rattle.verity_path.specs.declared.walk.WalkFault.TheVariants as fault
 use Rattle.verity_path.proofs.Order.{last_later, last_short_later}
-use Rattle.verity_path.proofs.Walking.{piece_right}
+use Rattle.verity_path.proofs.Pieces.{piece_right}
 
 -- what is blamed in the later part of a work is blamed in the whole
 pub blame_later : (layout : Layout) (m : Measure) (F : Call → Type 0) (a b c : Told) (x y : Exchanges) (failed : ℕ) (fault : WalkFault) → a.faults ≤ b.faults →

@@ -26,10 +26,10 @@ module _ (layout : Layout) (count level index : ℕ) (a : Place) (level_is : lev
       let refused : Refused (call_for layout count a.level a.index) [] x y =
       subst (λ (i : ℕ). Refused (call_for layout count a.level i) [] x y) index_is (subst (λ (l : ℕ). Refused (call_for layout count l index) [] x y) level_is refusal) in
       did_refused (IsCallFor layout count a.level a.index) (call_for layout count a.level a.index) x y (FetchOutcome layout count a old new (Err (fault.Failed faults))) (record { call_is = refl }) refused
-      (is_failed (IsCallFor layout count a.level a.index) (call_for layout count a.level a.index) [] x y [] faults (record { call_is = refl }) refused count_is, same)
+      ((is_failed (IsCallFor layout count a.level a.index) (call_for layout count a.level a.index) [] x y [] faults (record { call_is = refl }) refused count_is, refl), same)
 
   pub scarce : Unheard x y → Did (IsCallFor layout count a.level a.index) 1 x y (FetchOutcome layout count a old new (Err fault.Memory))
-  scarce unheard = did_unheard (IsCallFor layout count a.level a.index) 1 x y (FetchOutcome layout count a old new (Err fault.Memory)) unheard (record { failed = refl; scarce = unheard.scarce }, same)
+  scarce unheard = did_unheard (IsCallFor layout count a.level a.index) 1 x y (FetchOutcome layout count a old new (Err fault.Memory)) unheard ((record { failed = refl; scarce = unheard.scarce }, refl), same)
 
 module _ (layout : Layout) (count level index : ℕ) (a : Place) (level_is : level ≡ a.level) (index_is : index ≡ a.index) (x y : Told) (raw : List ℕ)
     (answer : Answered (call_for layout count level index) [] (Bytes raw) x y) (piece : Piece) (placed : IsPlaced layout count level index piece)
@@ -57,7 +57,7 @@ module _ (layout : Layout) (count level index : ℕ) (a : Place) (level_is : lev
         got_is = got_is;
         short = few;
       };
-      last = record { before = []; is = refl };
+      own = refl;
     },
     same,
   )
@@ -103,7 +103,7 @@ module _ (layout : Layout) (count level index : ℕ) (a : Place) (level_is : lev
         failed = refl;
         differ = differ;
         bytes = raw;
-        own = record { before = []; is = refl };
+        own = refl;
         whole = whole ∙ stands.asked;
         piece = held;
         found = found ∙ ap (page_hash a.salt) page_is;

@@ -1,6 +1,8 @@
 pub mod Asking
 pub mod Fetching
 pub mod Order
+pub mod Pieces
+pub mod Judged
 pub mod Walking
 pub mod Blaming
 pub mod Ranges

@@ -23,7 +23,9 @@ use Rattle.verity_path.specs.declared.walk.Layout.{Layout}
 use Rattle.verity_path.specs.declared.walk.Layout.TheVariants.{File}
 use Rattle.verity_path.specs.declared.walk.WalkFault.{WalkFault}
 use Rattle.verity_path.proofs.Order.{asked-append, later_order}
-use Rattle.verity_path.proofs.Walking.{piece_left, piece_right, sound}
+use Rattle.verity_path.proofs.Pieces.{piece_left, piece_right}
+use Rattle.verity_path.proofs.Judged.{right_left, right_right, right_both, right_later}
+use Rattle.verity_path.proofs.Walking.{sound}
 use Rattle.verity_path.proofs.Blaming.{blame_later, blame_so}
 
 lt_or_le : (a b : ℕ) → (a < b) ⊎ (b ≤ a)
@@ -126,7 +128,7 @@ module _ (layout : Layout) (m : Measure) (size offset len end : ℕ) (end_is : e
   pub range_start : (a : Told) (bytes : List ℕ) → bytes ≡ [] → Did (IsForRead layout m size offset len) (answers_to m offset (offset / 4096)) a a (RangeSoFar layout m offset end (offset / 4096) bytes)
   range_start a bytes none =
       let no : offset / 4096 - offset / 4096 ≡ 0 = omega arith in
-      rw none (did_none _ _ a _ (refl, cut_none [] m offset _ (omega arith), ap (blocks_calls layout m (offset / 4096)) (sym no)))
+      rw none (did_none _ _ a _ (refl, cut_none [] m offset _ (omega arith), ap (blocks_calls layout m (offset / 4096)) (sym no), λ call said i. absurd i))
 
   more_answers : (index : ℕ) → offset / 4096 ≤ index → answers_to m offset index + (top m.blocks + 1) ≡ answers_to m offset (index + 1)
   more_answers index from =
@@ -158,6 +160,7 @@ module _ (layout : Layout) (m : Measure) (size offset len end : ℕ) (end_is : e
         asked-append x y ∙ ap (λ (cs : List Call). cs ++ asked_in y) so.2 ∙ ap (λ (cs : List Call). blocks_calls layout m (offset / 4096) (index - offset / 4096) ++ cs) proved.1
             ∙ ap (λ (b : ℕ). blocks_calls layout m (offset / 4096) (index - offset / 4096) ++ walk_of layout m b) (sym at)
             ∙ sym (blocks-snoc layout m (index - offset / 4096) (offset / 4096)) ∙ ap (blocks_calls layout m (offset / 4096)) (sym next),
+        right_both layout m x y so.3 (right_right layout m x y y proved.2),
       )))
 
   pub range_bad : (a b c : Told) (index : ℕ) (bytes left : List ℕ) (f : WalkFault) → offset / 4096 ≤ index → 4096 * index < end → Did (IsForRead layout m size offset len) (answers_to m offset index) a b (RangeSoFar layout m offset end index bytes)
@@ -177,6 +180,7 @@ module _ (layout : Layout) (m : Measure) (size offset len end : ℕ) (end_is : e
         blame_later layout m (IsForRead layout m size offset len) a b c x y failed f le
             (blame_so layout m (IsOnPath layout m index) (IsForRead layout m size offset len) _ f (λ call. path_for index call from to) blame.0),
         later_order _ (walk_of layout m index) _ (read_calls layout m size offset len) x y failed a b c whole so.2 blame.1,
+        right_later layout m x y _ so.3 blame.2,
       )) in
       did_so _ _ _ _ a c _ _ all (λ call q. q) both (λ t q. q)
 
@@ -186,13 +190,13 @@ module _ (layout : Layout) (m : Measure) (size offset len end : ℕ) (end_is : e
       let e : min end (max offset (4096 * index)) ≡ end_of size offset len = omega (arith, last, end_is, some) in
       let count : index - offset / 4096 ≡ touched offset (end_of size offset len) =
       rw (← end_is) (ap (λ (n : ℕ). n - offset / 4096) last ∙ sym (touched_some offset end some)) in
-      did_so _ _ _ _ a b _ _ d (λ call q. q) (rw (all_answers, last) (omega arith)) (λ t so. (so.0, rw e at so.1, so.2 ∙ ap (blocks_calls layout m (offset / 4096)) count))
+      did_so _ _ _ _ a b _ _ d (λ call q. q) (rw (all_answers, last) (omega arith)) (λ t so. (so.0, rw e at so.1, so.2 ∙ ap (blocks_calls layout m (offset / 4096)) count, so.3))
 
 -- an empty range
 pub range_none : (layout : Layout) (m : Measure) (size offset len : ℕ) (a : Told) (bytes : List ℕ) (u : Unit {0}) → end_of size offset len ≤ offset → bytes ≡ [] →
     Did (IsForRead layout m size offset len) (most_answers m size offset len) a a (RangeOutcome layout m size offset len bytes (Ok u))
 range_none layout m size offset len a bytes u le none =
-    rw none (did_none _ _ a _ (refl, cut_none [] m offset _ le, ap (blocks_calls layout m (offset / 4096)) (sym (touched_none offset (end_of size offset len) le))))
+    rw none (did_none _ _ a _ (refl, cut_none [] m offset _ le, ap (blocks_calls layout m (offset / 4096)) (sym (touched_none offset (end_of size offset len) le)), λ call said i. absurd i))
 
 -- more heard ties no less
 pub cut_wider : (heard own : Exchanges) (m : Measure) (offset end : ℕ) (bytes : List ℕ) → IsCut own m offset end bytes → IsCut (heard ++ own) m offset end bytes

@@ -1,9 +1,11 @@
 -- A walk, page by page.
-use Rattle.std.proofs.Common.{◌≡◌, ℕ, ◌+◌, ◌-◌, ◌/◌, ◌%◌, ◌<◌, ◌≤◌, ◌∙◌, List, [], ◌∷◌, ◌++◌, zero, suc, append_assoc, append-nil, Result, Ok, Err, refl, ap, sym, subst, arith, inl, inr}
+use Rattle.std.proofs.Common.{◌≡◌, ℕ, ◌+◌, ◌-◌, ◌/◌, ◌%◌, ◌<◌, ◌≤◌, ◌∙◌, List, [], ◌∷◌, ◌++◌, zero, suc, append_assoc, append-nil, Result, Ok, Err, refl, ap, sym, subst, arith, inl, inr, ⊎_elim}
 use Rattle.host_traits.specs.declared.calls.Call.{Call}
 use Rattle.host_traits.specs.Told.{Told, Exchanges}
-use Rattle.host_traits.specs.Did.{Trace, trace_of, Did}
-use Rattle.host_traits.proofs.Doing.{in_left, in_right, did_none, did_so, did_then, failed_later, scarce_later, failed_so}
+use Rattle.host_traits.specs.declared.calls.Said.{Said}
+use Rattle.host_traits.specs.declared.calls.Said.TheVariants.{Bytes}
+use Rattle.host_traits.specs.Did.{Trace, trace_of, Did, IsIn}
+use Rattle.host_traits.proofs.Doing.{did_none, did_so, did_then, failed_later, scarce_later, failed_so}
 use Rattle.sha_tree.specs.declared.measure.Measure.{Measure}
 use Rattle.sha_tree.specs.Tree.{block as content_block, ancestor, page_hash, slot, top}
 use Rattle.sha_tree.specs.Measured.{HasTree}
@@ -11,21 +13,18 @@ use Rattle.sha_tree.specs.Path.{IsDerived, NoClash}
 use Rattle.sha_tree.proofs.Levels.{ancestor-top, ancestor-page, ancestor-above, ancestor-zero}
 use Rattle.sha_tree.proofs.Sound.{derived_more, derived_top, derived_below, all_sound}
 use Rattle.verity_path.specs.States.{Place, Met, IsMet}
-use Rattle.verity_path.specs.Calls.{IsOnPath, call_for}
+use Rattle.verity_path.specs.Calls.{IsOnPath, asked_for, call_for, piece_for}
 use Rattle.verity_path.specs.Order.{IsInOrder, asked_in, walk_calls}
+use Rattle.verity_path.specs.Judged.{IsRightAnswer, AreRight, AreRightBefore, judged}
 use Rattle.verity_path.specs.Pieces.{IsPiece, IsHashed}
 use Rattle.verity_path.specs.Steps.{IsCallFor, IsFetched, IsFetchBlame, ProvedOutcome, IsBelow}
 use Rattle.verity_path.specs.Walk.{IsWalkBlame, IsProved, WalkOutcome}
 use Rattle.verity_path.specs.declared.walk.Layout.{Layout}
 use Rattle.verity_path.specs.declared.walk.WalkFault.{WalkFault}
 use Rattle.verity_path.specs.declared.walk.WalkFault.TheVariants as fault
+use Rattle.verity_path.proofs.Pieces.{piece_left, piece_right}
+use Rattle.verity_path.proofs.Judged.{right_left, right_both, judged_one}
 use Rattle.verity_path.proofs.Order.{asked-append, did_in_order, later_order, last_later, last_short_later}
-
-pub piece_left : (x y : Exchanges) (p : List ℕ) → IsPiece x p → IsPiece (x ++ y) p
-piece_left x y p i = record { call = i.call; said = i.said; was_heard = in_left i.call i.said x y i.was_heard; piece = i.piece }
-
-pub piece_right : (x y : Exchanges) (p : List ℕ) → IsPiece y p → IsPiece (x ++ y) p
-piece_right x y p i = record { call = i.call; said = i.said; was_heard = in_right i.call i.said x y i.was_heard; piece = i.piece }
 
 -- a call for the page over a block is on its path
 pub on_path : (layout : Layout) (m : Measure) (block count level index : ℕ) → count ≡ m.blocks → level ≤ top m.blocks → index ≡ ancestor block level →
@@ -40,12 +39,13 @@ on_path layout m block count level index same low is call c = record {
 hash_met : (m : Measure) (a : Place) (p : List ℕ) → a.salt ≡ m.salt → page_hash a.salt p ≡ a.digest → a.digest ≡ page_hash m.salt p
 hash_met m a p salt met = sym met ∙ ap (λ (s : List ℕ). page_hash s p) salt
 
--- where a walk stands: no call failed, the anchor is that of the page over the block, its digest is tied to that place, and the
--- calls so far are those above the level
+-- where a walk stands: no call failed, the anchor is that of the page over the block, its digest is tied to that place, the
+-- calls so far are those above the level, and each answer is right
 abbrev pub Stands : Layout → Measure → ℕ → ℕ → Place → Trace → Type 0
 Stands layout m block level a t =
     (t.failed ≡ 0) × IsDerived (IsPiece t.own) m level (ancestor block level) a.digest
     × (asked_in t.own ++ walk_calls layout m.blocks block level ≡ walk_calls layout m.blocks block (top m.blocks))
+    × AreRight layout m t.own t.own
 
 -- the anchor of a level on the way to a block
 pub record IsAt (m : Measure) (block level : ℕ) (a : Place) : Type 0 where
@@ -71,7 +71,7 @@ module _ (layout : Layout) (m : Measure) (block count : ℕ) (same : count ≡ m
   begins a level told limit is root =
       let zero_is : ancestor block level ≡ 0 = ap (ancestor block) is ∙ ancestor-top m.blocks block within limit in
       did_none (IsOnPath layout m block) (top m.blocks - level) told (Stands layout m block level a)
-      (refl, rw (zero_is, is, root) (derived_top (IsPiece []) m (omega arith) limit), ap (walk_calls layout m.blocks block) is)
+      (refl, rw (zero_is, is, root) (derived_top (IsPiece []) m (omega arith) limit), ap (walk_calls layout m.blocks block) is, λ call said i. absurd i)
 
   -- ---- the order of the calls
 
@@ -120,6 +120,26 @@ module _ (layout : Layout) (m : Measure) (block count : ℕ) (same : count ≡ m
       subst (λ (x : List ℕ). IsDerived (IsPiece (u ++ v)) m level (ancestor block level) x) (hash_met m a p at.salt_is met)
       (derived_more (IsPiece u) (IsPiece (u ++ v)) m (piece_left u v) level (ancestor block level) a.digest d)
 
+  -- the answer in which a page was fetched is right
+  fetched_right : (u v : Exchanges) (t : Trace) (a : Place) (level : ℕ) (p : List ℕ) → IsAt m block level a
+      → IsDerived (IsPiece u) m level (ancestor block level) a.digest → t.own ≡ v → IsFetched layout count a t p → AreRight layout m (u ++ v) v
+  fetched_right u v t a level p at d own q call said i =
+      let alone : IsIn call said ((call_for layout count a.level a.index, Bytes q.bytes) ∷ []) = subst (IsIn call said) (sym own ∙ q.own) i in
+      let e : (call, said) ≡ (call_for layout count a.level a.index, Bytes q.bytes) = ⊎_elim (λ is. is) (λ none. absurd none) alone in
+      let page_is : p ≡ piece_for layout m.blocks a.level a.index q.bytes = q.is ∙ ap (λ (n : ℕ). piece_for layout n a.level a.index q.bytes) same in
+      record {
+        level = a.level;
+        index = a.index;
+        bytes = q.bytes;
+        call_is = ap (λ (x : Call × Said). x.0) e ∙ ap (λ (n : ℕ). call_for layout n a.level a.index) same;
+        said_is = ap (λ (x : Call × Said). x.1) e;
+        whole = q.whole ∙ ap (λ (n : ℕ). asked_for layout n a.level a.index) same;
+        tied =
+            subst (λ (x : List ℕ). IsDerived (IsPiece (u ++ v)) m a.level a.index (page_hash m.salt x)) page_is
+            (subst (λ (k : ℕ). IsDerived (IsPiece (u ++ v)) m a.level k (page_hash m.salt p)) (sym at.index_is)
+            (subst (λ (l : ℕ). IsDerived (IsPiece (u ++ v)) m l (ancestor block level) (page_hash m.salt p)) (sym at.level_is) (tied_hash u v a level p at d q.met)));
+      }
+
   below : (u v : Exchanges) (t : Trace) (a b : Place) (level : ℕ) → 0 < level → IsAt m block level a
       → IsDerived (IsPiece u) m level (ancestor block level) a.digest → t.own ≡ v → IsBelow layout count block a t b
       → IsDerived (IsPiece (u ++ v)) m (level - 1) (ancestor block (level - 1)) b.digest
@@ -148,6 +168,7 @@ module _ (layout : Layout) (m : Measure) (block count : ℕ) (same : count ≡ m
         q.fetched.failed,
         below u v _ a b level some at p.1 refl q,
         ap (λ (cs : List Call). asked_in (u ++ v) ++ cs) (sym (below_is level some)) ∙ called u v a level at p.2 (ap asked_in q.fetched.own),
+        right_both layout m u v p.3 (fetched_right u v _ a level q.page at p.1 refl q.fetched),
       )) in
       did_so (IsOnPath layout m block) (IsOnPath layout m block) (top m.blocks - level + 1) (top m.blocks - (level - 1)) x z _ _ all
       (λ call f. f) (omega arith) (λ t q. q)
@@ -162,17 +183,17 @@ module _ (layout : Layout) (m : Measure) (block count : ℕ) (same : count ≡ m
         failed = q.failed;
         differ = q.differ;
         bytes = q.bytes;
-        own = rw (q.level_is, q.index_is, ← same) (last_later _ _ u v q.own);
+        own = rw (q.level_is, q.index_is, ← same) (last_later _ _ u v (record { before = []; is = q.own }));
         whole = rw (q.level_is, q.index_is, ← same) q.whole;
         piece = rw (q.level_is, q.index_is, ← same) q.piece;
         found = rw (q.level_is, q.index_is, ← same, ← at.salt_is) q.found;
         expected = rw (level_is, index_is, q.expected) (derived_more (IsPiece u) (IsPiece (u ++ v)) m (piece_left u v) level (ancestor block level) a.digest d);
       }
-  blamed u v failed x y z a level (fault.Short asked got) le at d q = last_short_later x y z u v failed asked got q
+  blamed u v failed x y z a level (fault.Short asked got) le at d q = last_short_later x y z u v failed asked got (record { short = q.short; last = record { before = []; is = q.own } })
   blamed u v failed x y z a level (fault.Failed faults) le at d q =
       failed_later (IsOnPath layout m block) x y z u v failed faults le
-      (failed_so (IsCallFor layout count a.level a.index) (IsOnPath layout m block) _ faults (path a level at) q)
-  blamed u v failed x y z a level fault.Memory le at d q = scarce_later x y z u v failed q
+      (failed_so (IsCallFor layout count a.level a.index) (IsOnPath layout m block) _ faults (path a level at) q.0)
+  blamed u v failed x y z a level fault.Memory le at d q = scarce_later x y z u v failed q.0
 
   pub fails : (a : Place) (level : ℕ) (x y z : Told) (fault : WalkFault) → IsAt m block level a →
       Did (IsOnPath layout m block) (top m.blocks - level) x y (Stands layout m block level a) →
@@ -189,6 +210,13 @@ module _ (layout : Layout) (m : Measure) (block count : ℕ) (same : count ≡ m
       (λ u v failed le p q. (
         blamed u v failed x y z a level fault le at p.1 q.1,
         later_order (asked_in u) (call ∷ []) (below_calls level) all_calls u v failed x y z (cut_calls u a level at p.2) refl q.0,
+        record {
+          before = u;
+          last = v;
+          is = refl;
+          count = judged_one layout count a (trace_of v failed y z) fault q.1;
+          right = right_left layout m u v u p.3;
+        },
       )) in
       did_so (IsOnPath layout m block) (IsOnPath layout m block) (top m.blocks - level + 1) (top m.blocks + 1) x z _ _ all
       (λ call f. f) (omega arith) (λ t q. q)
@@ -233,6 +261,8 @@ module _ (layout : Layout) (m : Measure) (block count : ℕ) (same : count ≡ m
         proved u v failed x y z a p at_zero (subst (λ (l : ℕ). IsDerived (IsPiece u) m l (ancestor block l) a.digest) none s.1) q.1 q.0,
         sym (append-nil (asked_in (u ++ v))) ∙ called u v a 0 at_zero
             (subst (λ (l : ℕ). asked_in u ++ walk_calls layout m.blocks block l ≡ all_calls) none s.2) (ap asked_in q.0.own),
+        right_both layout m u v s.3 (fetched_right u v _ a 0 p.page at_zero
+            (subst (λ (l : ℕ). IsDerived (IsPiece u) m l (ancestor block l) a.digest) none s.1) refl q.0),
       )) in
       did_so (IsOnPath layout m block) (IsOnPath layout m block) (top m.blocks - level + 1) (top m.blocks + 1) x z _ _ all
       (λ call f. f) (omega arith) (λ t q. q)

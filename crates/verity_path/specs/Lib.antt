@@ -3,6 +3,7 @@ pub mod Calls
 pub mod Pieces
 pub mod Steps
 pub mod Order
+pub mod Judged
 pub mod Walk
 pub mod Range
 pub mod Lies

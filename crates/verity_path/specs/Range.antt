@@ -8,6 +8,7 @@ use Rattle.sha_tree.specs.Tree.{div_up, page_hash, top}
 use Rattle.sha_tree.specs.Path.{IsDerived}
 use Rattle.verity_path.specs.Calls.{IsOnPath}
 use Rattle.verity_path.specs.Order.{IsInOrder, IsLastShort, asked_in, blocks_calls}
+use Rattle.verity_path.specs.Judged.{AreRight, AreRightBefore, judged}
 use Rattle.verity_path.specs.Pieces.{IsPiece}
 use Rattle.verity_path.specs.Walk.{IsMismatch, IsWalkBlame}
 use Rattle.verity_path.specs.declared.walk.Layout.{Layout}
@@ -51,19 +52,21 @@ IsSlice None heard m size offset len bytes = IsCut heard m offset (end_of size o
 abbrev pub read_calls : Layout → Measure → ℕ → ℕ → ℕ → List Call
 read_calls layout m size offset len = blocks_calls layout m (offset / 4096) (touched offset (end_of size offset len))
 
--- What came of a read of a range. Where its bytes are given, no call failed, and each of its calls was made, in their order; with
--- a fault the first of them, in that order.
+-- What came of a read of a range. Where its bytes are given, no call failed, each of its calls was made, in their order, and each
+-- answer is right; with a fault the first of them, in that order, and each answer but the one to blame is right.
 abbrev pub RangeOutcome : Layout → Measure → ℕ → ℕ → ℕ → List ℕ → Result (Unit {0}) WalkFault → Trace → Type 0
 RangeOutcome layout m size offset len bytes (Ok _) t =
     (t.failed ≡ 0) × IsCut t.own m offset (end_of size offset len) bytes × (asked_in t.own ≡ read_calls layout m size offset len)
+    × AreRight layout m t.own t.own
 RangeOutcome layout m size offset len bytes (Err fault) t =
     IsWalkBlame layout m (IsForRead layout m size offset len) t fault × IsInOrder (read_calls layout m size offset len) t
+    × AreRightBefore layout m t.own (judged fault)
 
 -- the blocks below index are read
 abbrev pub RangeSoFar : Layout → Measure → ℕ → ℕ → ℕ → List ℕ → Trace → Type 0
 RangeSoFar layout m offset end index bytes t =
     (t.failed ≡ 0) × IsCut t.own m offset (min end (max offset (4096 * index))) bytes
-    × (asked_in t.own ≡ blocks_calls layout m (offset / 4096) (index - offset / 4096))
+    × (asked_in t.own ≡ blocks_calls layout m (offset / 4096) (index - offset / 4096)) × AreRight layout m t.own t.own
 
 -- the cause of a read that was not answered, in what was heard for it
 abbrev pub IsReadBlame : Layout → Measure → (Call → Type 0) → Trace → Cause → Type 0

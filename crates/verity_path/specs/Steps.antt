@@ -2,11 +2,10 @@
 use Rattle.std.specs.Prelude.{◌≡◌, ◌≢◌, ℕ, ◌+◌, ◌-◌, ◌*◌, ◌%◌, ◌≤◌, List, [], ◌∷◌, length, slice_range, Result, Ok, Err}
 use Rattle.host_traits.specs.declared.calls.Call.{Call}
 use Rattle.host_traits.specs.declared.calls.Said.TheVariants.{Bytes}
-use Rattle.host_traits.specs.Did.{Trace, IsFailed, IsScarce}
+use Rattle.host_traits.specs.Did.{Trace, IsShort, IsFailed, IsScarce}
 use Rattle.sha_tree.specs.Tree.{ancestor, padded, page_hash, slot}
 use Rattle.verity_path.specs.States.{Place, Met}
 use Rattle.verity_path.specs.Calls.{call_for, piece_for, asked_for}
-use Rattle.verity_path.specs.Order.{IsLast, IsLastShort}
 use Rattle.verity_path.specs.Pieces.{IsPieceOf, IsPiece}
 use Rattle.verity_path.specs.declared.states.Mismatch.{Mismatch}
 use Rattle.verity_path.specs.declared.walk.Layout.{Layout}
@@ -42,7 +41,7 @@ pub record IsOther (layout : Layout) (count : ℕ) (a : Place) (t : Trace) (x : 
   pub failed : t.failed ≡ 0
   pub differ : x.expected.0 ≢ x.found.0
   pub bytes : List ℕ
-  pub own : IsLast (call_for layout count a.level a.index) (Bytes bytes) t.own
+  pub own : t.own ≡ (call_for layout count a.level a.index, Bytes bytes) ∷ []
   pub whole : length bytes ≡ asked_for layout count a.level a.index
   pub piece : IsPieceOf (call_for layout count a.level a.index) (Bytes bytes) (piece_for layout count a.level a.index bytes)
   pub found : x.found.0 ≡ page_hash a.salt (piece_for layout count a.level a.index bytes)
@@ -50,21 +49,26 @@ pub record IsOther (layout : Layout) (count : ℕ) (a : Place) (t : Trace) (x : 
   pub level_is : x.level ≡ a.level
   pub index_is : x.index ≡ a.index
 
--- why a page was not fetched
+-- the one answer was shorter than asked
+pub record IsShortAlone (t : Trace) (asked got : ℕ) : Type 0 where
+  pub short : IsShort t asked got
+  pub own : t.own ≡ (short.call, Bytes short.bytes) ∷ []
+
+-- why a page was not fetched; nothing was heard where its call failed or there was no memory
 abbrev pub IsFetchBlame : Layout → ℕ → Place → Trace → WalkFault → Type 0
 IsFetchBlame layout count a t (fault.Mismatch x) = IsOther layout count a t x
-IsFetchBlame layout count a t (fault.Short asked got) = IsLastShort t asked got
-IsFetchBlame layout count a t (fault.Failed faults) = IsFailed (IsCallFor layout count a.level a.index) t faults
-IsFetchBlame layout count a t fault.Memory = IsScarce t
+IsFetchBlame layout count a t (fault.Short asked got) = IsShortAlone t asked got
+IsFetchBlame layout count a t (fault.Failed faults) = IsFailed (IsCallFor layout count a.level a.index) t faults × (t.own ≡ [])
+IsFetchBlame layout count a t fault.Memory = IsScarce t × (t.own ≡ [])
 
 -- what came of the one call, by what the page held before and holds now
 abbrev pub FetchOutcome : Layout → ℕ → Place → List ℕ → List ℕ → Result (Unit {0}) WalkFault → Trace → Type 0
 FetchOutcome layout count a old new (Ok _) t = IsFetched layout count a t new
 FetchOutcome layout count a old new (Err (fault.Mismatch x)) t =
     (w : IsOther layout count a t x) × (new ≡ piece_for layout count a.level a.index w.bytes)
-FetchOutcome layout count a old new (Err (fault.Short asked got)) t = IsLastShort t asked got × (new ≡ old)
-FetchOutcome layout count a old new (Err (fault.Failed faults)) t = IsFailed (IsCallFor layout count a.level a.index) t faults × (new ≡ old)
-FetchOutcome layout count a old new (Err fault.Memory) t = IsScarce t × (new ≡ old)
+FetchOutcome layout count a old new (Err (fault.Short asked got)) t = IsFetchBlame layout count a t (fault.Short asked got) × (new ≡ old)
+FetchOutcome layout count a old new (Err (fault.Failed faults)) t = IsFetchBlame layout count a t (fault.Failed faults) × (new ≡ old)
+FetchOutcome layout count a old new (Err fault.Memory) t = IsFetchBlame layout count a t fault.Memory × (new ≡ old)
 
 -- the same of a page that is proved
 abbrev pub ProvedOutcome : Layout → ℕ → Place → Result Met WalkFault → Trace → Type 0

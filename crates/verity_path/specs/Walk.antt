@@ -10,6 +10,7 @@ use Rattle.sha_tree.specs.Path.{IsDerived, NoClash}
 use Rattle.verity_path.specs.States.{Met, IsMet}
 use Rattle.verity_path.specs.Calls.{IsOnPath, asked_for, call_for, piece_for}
 use Rattle.verity_path.specs.Order.{IsInOrder, IsLast, IsLastShort, asked_in, walk_calls}
+use Rattle.verity_path.specs.Judged.{AreRight, AreRightBefore, judged}
 use Rattle.verity_path.specs.Pieces.{IsPieceOf, IsPiece, IsHashed}
 use Rattle.verity_path.specs.declared.states.Mismatch.{Mismatch}
 use Rattle.verity_path.specs.declared.walk.Layout.{Layout}
@@ -49,10 +50,11 @@ pub record IsProved (m : Measure) (index : ℕ) (t : Trace) (p : Met) : Type 0 w
   pub salt_is : p.anchor.salt ≡ m.salt
   pub met : IsMet p
 
--- what came of a walk to a block: with the page each call of the walk was made, from the top page down; with a fault the first of
--- them, in that order
+-- What came of a walk to a block. With the page each call of the walk was made, from the top page down, and each answer is right;
+-- with a fault the first of them, in that order, and each answer but the one to blame is right.
 abbrev pub WalkOutcome : Layout → Measure → ℕ → Result Met WalkFault → Trace → Type 0
 WalkOutcome layout m index (Ok p) t =
-    IsProved m index t p × (asked_in t.own ≡ walk_calls layout m.blocks index (top m.blocks))
+    IsProved m index t p × (asked_in t.own ≡ walk_calls layout m.blocks index (top m.blocks)) × AreRight layout m t.own t.own
 WalkOutcome layout m index (Err fault) t =
     IsWalkBlame layout m (IsOnPath layout m index) t fault × IsInOrder (walk_calls layout m.blocks index (top m.blocks)) t
+    × AreRightBefore layout m t.own (judged fault)
