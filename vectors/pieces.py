@@ -7,9 +7,13 @@ LONG = 3000
 
 def length_of(data, at, period):
     """How many bytes from `at` on repeat with this period."""
-    end = at + period
-    while end < len(data) and data[end] == data[end - period]:
-        end += 1
+    end, step = at + period, 1
+    while step > 0 and end < len(data):
+        same = data[end:end + step]
+        if same == data[end - period:end - period + len(same)]:
+            end, step = end + len(same), 2 * step
+        else:
+            step //= 2
     return end - at
 
 

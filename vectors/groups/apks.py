@@ -17,9 +17,10 @@ FIRST = "apk 0 apk idsig first\n"
 ASKED = request(0, 299 * 4096, 8) + request(1, 0, 8)
 
 
-def table():
+def table(apk=2400, signed=40):
+    """The table of an APK and an idsig of so many sectors."""
     sevens = uuid.UUID(bytes=16 * b"\7")
-    return Table(uuid.UUID(bytes=16 * b"\11"), [("apk", sevens, 2400), ("idsig", sevens, 40)])
+    return Table(uuid.UUID(bytes=16 * b"\11"), [("apk", sevens, apk), ("idsig", sevens, signed)])
 
 
 DISK = ApkDisk(DEVICE, table())
@@ -69,6 +70,28 @@ def idsigs():
     yield refused("short idsig", "a sector in place of forty", FIRST, [DISK.boot(0), told(front[:512])], "apk short 20480 512")
 
 
+def measures():
+    """How many blocks the APK has by its sectors, by the plan and by the idsig's tree, and which rule comes first."""
+    front = DISK.front
+    wide = ApkDisk(DEVICE, table(2407))
+    yield replayed("seven sectors more", "whole blocks alone count", plan(FIRST), [wide.boot()] + list(wide.read(299 * 4096, 8)),
+                   request(0, 299 * 4096, 8) + request(0, 300 * 4096, 8), reply(0, DEVICE.content[299 * 4096:][:8]) + reply(0))
+    for name, sectors, words in (("one block", 15, "toofewblocks 1"), ("most blocks", 8388608, "idsig treelength 33820672 16384"),
+                                 ("a block too many", 8388616, "toomanyblocks 1048577")):
+        yield refused(name, "by the APK's sectors", FIRST, ends(table(sectors)) + [told(front)], f"apk {words}")
+    yield refused("fewer tree pages", "200 blocks have three pages above them", f"apk 0 apk idsig fixed 200 - {ROOT}\n", [DISK.boot()],
+                  "apk idsig treelength 12288 16384")
+    other = 32 * "07"
+    yield refused("root before span", "another root, and a block more than there are", f"apk 0 apk idsig fixed 301 - {other}\n", [DISK.boot()],
+                  f"apk rootmismatch {other} {ROOT}")
+    yield refused("salt before root", "another salt too", f"apk 0 apk idsig fixed 301 01 {other}\n", [DISK.boot()], "apk saltmismatch")
+    yield refused("end of the disk", "ten sectors in place of the 136 of a longest front", FIRST, ends(table(2400, 200)) + [told(front[:5120])],
+                  "apk short 69632 5120")
+    yield refused("tree past its part", "the part ends before the tree does", FIRST, ends(table(2400, 32)) + [told(front[:16384])],
+                  "apk idsig truncated 61")
+    yield refused("no idsig there", "a part of zeros", FIRST, ends(DISK.table) + [told(bytes(20480))], "apk idsig version 0")
+
+
 def tables():
     """The three calls for a table, and tables that break a rule in both copies."""
     good = ends(DISK.table)
@@ -97,4 +120,5 @@ def tables():
 
 def cases():
     yield from idsigs()
+    yield from measures()
     yield from tables()

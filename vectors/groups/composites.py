@@ -48,6 +48,7 @@ def refused(name, why, words, status, log, **files):
 
 def sessions():
     yield served("end of the file", "the host's measure; a read at the end", "apk 0 apk idsig first\n", 1228790, 100, 1228800)
+    yield served("border of a tree page", "blocks 127 and 128", "apk 0 apk idsig first\n", 128 * 4096 - 6, 12, 128 * 4096 + 6)
     yield served("measure of a block less", "as many tree pages, so it opens", f"apk 0 apk idsig fixed 299 - {ROOT}\n", 0, 5000, 5000)
     yield served("end of a block less", "the device ends at 1,224,704", f"apk 0 apk idsig fixed 299 - {ROOT}\n", 1224700, 8, 1224704)
     other = "b" + ROOT[1:]

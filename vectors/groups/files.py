@@ -31,9 +31,15 @@ EMPTY = descriptor(0, bytes(32))
 
 BLOCK = descriptor(4096, hashlib.sha256(counted(4096)).digest())
 
+LONG = counted(100000)
+
+LONG_FILE = descriptor(100000, Device(LONG.ljust(25 * 4096, b"\0")).root)
+
 BYTE = descriptor(1, hashlib.sha256(b"Z".ljust(4096, b"\0")).digest())
 
-LONG = descriptor(2**32 + 1, ROOT)
+LONGEST = descriptor(2**32, ROOT)
+
+TOO_LONG = descriptor(2**32 + 1, ROOT)
 
 assert [digest(it)[:8] for it in (FILE, EMPTY, BLOCK, BYTE)] == ["e48d50c5", "3d248ca5", "13e9b884", "ed1ca3d5"]
 
@@ -43,11 +49,11 @@ def refused(name, why, data, answer, words):
 
 
 def cases():
-    for name, data in (("file", FILE), ("empty", EMPTY), ("block", BLOCK), ("byte", BYTE)):
+    for name, data in (("file", FILE), ("empty", EMPTY), ("block", BLOCK), ("byte", BYTE), ("longest", LONGEST)):
         yield replayed(f"{name} opens", "the descriptor has the plan's digest", plan(data), [told(data)])
     other = descriptor(4096, ROOT)
     yield refused("another size", "the root of two blocks as that of one", FILE, other, f"digestmismatch {digest(FILE)} {digest(other)}")
-    yield refused("too long", "a size above 2^32", LONG, LONG, f"toolong {2**32 + 1}")
+    yield refused("too long", "a size above 2^32", TOO_LONG, TOO_LONG, f"toolong {2**32 + 1}")
     yield refused("short", "a byte less than a descriptor", FILE, FILE[:255], "short 256 255")
     yield replayed("failed", "no answer", plan(FILE), [], status=8, log="end 8 boot 2 file failed 1\n")
     one, two = changed(FILE, 112), changed(FILE, 112, 50)
@@ -61,10 +67,10 @@ def cases():
     yield replayed("one call", "a blob's line makes no call, and a file's one: the read goes on with the next record", both,
                    [told(EMPTY)] + [told(page) for _, _, page in blob.pages(0, 4)], request(0, 0, 4) + request(1, 0, 4),
                    reply(0, blob.content[:4]) + reply(2))
-    longer = blob.plan() + f"file a 8 {digest(LONG)}\n".encode()
-    yield replayed("second line", "the line that is named is the file's", longer, [told(LONG)], status=8,
+    longer = blob.plan() + f"file a 8 {digest(TOO_LONG)}\n".encode()
+    yield replayed("second line", "the line that is named is the file's", longer, [told(TOO_LONG)], status=8,
                    log=f"end 8 boot 3 file toolong {2**32 + 1}\n")
-    for name, content, data in (("file", counted(8192), FILE), ("empty", b"", EMPTY), ("block", counted(4096), BLOCK), ("byte", b"Z", BYTE)):
+    for name, content, data in (("file", counted(8192), FILE), ("empty", b"", EMPTY), ("block", counted(4096), BLOCK), ("byte", b"Z", BYTE), ("long", LONG, LONG_FILE)):
         files = {"plan": plan(data), "store": b"store 1\nverity 2 c.bin -\n", "entropy": b"", "c.bin": content}
         yield case(f"{name} of a store list", "the host makes the descriptor", files,
                    ran("serve plan store entropy tape", stored={"tape": tape(told(data))}))

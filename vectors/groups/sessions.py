@@ -19,6 +19,14 @@ def played(name, why, device, spans):
                 ran("replay plan tape entropy", 0, replies, "", stream))
 
 
+def marked():
+    """16,385 blocks of zeros but for the first byte of the five that are read."""
+    content = bytearray(16385 * 4096)
+    for at, block in enumerate((0, 127, 128, 16383, 16384), 1):
+        content[block * 4096] = at
+    return bytes(content)
+
+
 def draw(seed, most):
     seed = (seed * 6364136223846793005 + 1442695040888963407) % 2**64
     return seed, (seed >> 32) % most
@@ -27,6 +35,8 @@ def draw(seed, most):
 def cases():
     yield played("over a border", "twelve bytes of two blocks", Device(counted(8192)), [(0, 4090, 12)])
     deep = Device(counted(129 * 4096))
+    spans = [(0, block * 4096, 4) for block in (0, 127, 128, 16383, 16384)]
+    yield played("three levels", "zeros, but for a byte in the blocks on both sides of a page's border", Device(marked()), spans)
     for first in range(10):
         seed, spans = first, []
         for _ in range(12):

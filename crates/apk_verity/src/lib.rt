@@ -188,6 +188,3 @@ pub fn devices_open()
 {
     idsigs_are_read();
 }
-
-#[cfg(test)]
-mod tests;

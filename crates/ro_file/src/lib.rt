@@ -7,6 +7,3 @@ pub mod laws;
 
 pub use crate::files::{RoFault, RoFile, open_file};
 pub use crate::laws::files_are_measured;
-
-#[cfg(test)]
-mod tests;

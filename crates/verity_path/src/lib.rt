@@ -14,6 +14,3 @@ pub use crate::served::Served;
 pub use crate::states::{Anchor, Mismatch, Proved, check, meets};
 pub use crate::walk::{Buffers, Layout, WalkFault, fetch_page, walk_page};
 pub use sha_tree::Measure;
-
-#[cfg(test)]
-mod tests;
