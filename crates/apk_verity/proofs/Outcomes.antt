@@ -6,9 +6,7 @@ use Rattle.std.proofs.lemmas.Bool.{le-ltb, ltb-true, eq-eqb, cases_lt}
 use Rattle.std.proofs.lemmas.List.{length-take, take_all}
 use Rattle.mg_base.specs.declared.values.Digest.{Digest}
 use Rattle.mg_base.specs.declared.values.Span.{Span}
-use Rattle.host_traits.specs.declared.calls.Call.{Call}
 use Rattle.host_traits.specs.declared.calls.Call.TheVariants.{BlockRead}
-use Rattle.host_traits.specs.declared.calls.Said.{Said}
 use Rattle.host_traits.specs.declared.calls.Said.TheVariants.{Bytes}
 use Rattle.host_traits.specs.Told.{Told, Answered, Exchanges, kind_bytes}
 use Rattle.host_traits.specs.Did.{Trace, Did, IsIn, IsShort}

@@ -1,5 +1,5 @@
 -- Opening over a host that holds the idsig.
-use Rattle.std.proofs.Common.{◌≡◌, ℕ, ◌+◌, ◌*◌, ◌≤◌, ◌∙◌, min, List, [], length, take, drop, Some, Result, Ok, Err, refl, ap, sym, subst, arith}
+use Rattle.std.proofs.Common.{◌≡◌, ℕ, ◌+◌, ◌*◌, ◌≤◌, ◌∙◌, List, [], length, take, drop, Some, Result, Ok, Err, refl, ap, sym, subst, arith}
 use Rattle.std.proofs.lemmas.List.{length-take, length-drop, take-take}
 use Rattle.host_traits.specs.declared.calls.Call.TheVariants.{BlockRead}
 use Rattle.host_traits.specs.declared.calls.Said.TheVariants.{Bytes}
@@ -15,7 +15,7 @@ use Rattle.idsig_v4.specs.declared.head.Head.{Head}
 use Rattle.idsig_v4.specs.Reading.{IdsigsAreRead}
 use Rattle.apk_verity.specs.declared.ApkFault.{ApkFault}
 use Rattle.apk_verity.specs.declared.ApkFault.TheVariants as fault
-use Rattle.apk_verity.specs.Opening.{Opening, count_of, idsig_call, opened}
+use Rattle.apk_verity.specs.Opening.{Opening, count_of, opened}
 use Rattle.apk_verity.specs.Holding.{HoldsIdsig, OpensAs, DeviceOpens}
 use Rattle.apk_verity.proofs.Outcomes.{part_opens}
 

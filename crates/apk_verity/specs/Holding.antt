@@ -1,7 +1,6 @@
 -- What is opened where a host holds the idsig in its part, and no call failed or the host is honest: its device, or nothing for
 -- want of memory.
 use Rattle.std.specs.Prelude.{◌≡◌, ℕ, ◌+◌, ◌*◌, List, length, take, drop, Some, Result, Ok, Err}
-use Rattle.mg_base.specs.declared.values.Span.{Span}
 use Rattle.host_traits.specs.Held.{Held, Disk}
 use Rattle.host_traits.specs.Told.{Told, Calm}
 use Rattle.sha_tree.specs.declared.measure.Measure.{Measure}

@@ -1,6 +1,6 @@
 -- Reads over a host that holds an item: no call fails over an honest one, and each read has its defined reply.
-use Rattle.std.proofs.Common.{true, ◌≡◌, ◌<◌, ℕ, zero, suc, List, [], Option, Some, None, refl, sym, ap, ◌∙◌, subst, arith, inl, inr, ⊎_elim}
-use Rattle.std.specs.Prelude.{Bool, ◌⊎◌, slice_get}
+use Rattle.std.proofs.Common.{true, ◌≡◌, ◌<◌, ℕ, zero, suc, List, [], Option, Some, None, refl, sym, ap, ◌∙◌, subst, arith, ⊎_elim}
+use Rattle.std.specs.Prelude.{Bool, slice_get}
 use Rattle.host_traits.specs.declared.calls.Call.{Call}
 use Rattle.host_traits.specs.declared.calls.Said.{Said}
 use Rattle.host_traits.specs.Held.{Held, serve}

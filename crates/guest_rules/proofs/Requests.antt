@@ -1,5 +1,5 @@
 -- A request that was answered by its own calls, over a host that holds the item.
-use Rattle.std.proofs.Common.{true, ◌≡◌, ℕ, zero, suc, ◌^◌, ◌<◌, List, [], ◌∷◌, ◌++◌, refl, ap, sym, ◌∙◌, subst, Option, Some, None, inl, inr, arith}
+use Rattle.std.proofs.Common.{true, ◌≡◌, ℕ, ◌^◌, ◌<◌, List, [], ◌∷◌, ◌++◌, refl, ap, sym, ◌∙◌, subst, Option, Some, inl, inr, arith}
 use Rattle.std.specs.Prelude.{slice_get, ◌⊎◌}
 use Rattle.host_traits.specs.Held.{Held}
 use Rattle.host_traits.specs.Told.{Told, Exchanges, Calm, failures_of, heard_more, heard_of, heard_size}

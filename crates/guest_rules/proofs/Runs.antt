@@ -1,9 +1,9 @@
 -- Frames answered one by one: a turn from the work that was done for it, and one turn more.
-use Rattle.std.proofs.Common.{◌≡◌, ℕ, ◌+◌, ◌^◌, ◌<◌, ◌≤◌, List, [], ◌∷◌, ◌++◌, refl, ap, sym, subst, ◌∙◌, Option, Some, None, append_assoc, append-nil, inl, inr, arith}
-use Rattle.std.specs.Prelude.{flat_map, ◌⊎◌}
+use Rattle.std.proofs.Common.{◌≡◌, ℕ, ◌+◌, ◌^◌, ◌<◌, ◌≤◌, List, [], ◌∷◌, ◌++◌, refl, ap, sym, subst, ◌∙◌, Option, Some, None, append_assoc, append-nil, arith}
+use Rattle.std.specs.Prelude.{flat_map}
 use Rattle.std.specs.Io.KnownBytes.{Appends}
 use Rattle.host_traits.specs.declared.calls.Call.{Call}
-use Rattle.host_traits.specs.Told.{Told, Exchanges, Made, heard_more, heard_of, heard_size, failures_of}
+use Rattle.host_traits.specs.Told.{Told, Exchanges, heard_more, heard_of, heard_size, failures_of}
 use Rattle.host_traits.specs.Did.{Trace, trace_of, trace_after, reads, Did}
 use Rattle.host_traits.proofs.Doing.{each_so}
 use Rattle.host_traits.proofs.Talking.{heard_of-append, talked_not, talked_on}

@@ -1,5 +1,5 @@
 -- What a read of an item is answered where the host holds the item and no call fails.
-use Rattle.std.specs.Prelude.{Bool, true, ◌≡◌, ◌⊎◌, ℕ, ◌^◌, ◌*◌, ◌%◌, ◌<◌, ◌≤◌, List, length, take, drop, slice_get, Option, Some, None}
+use Rattle.std.specs.Prelude.{Bool, true, ◌≡◌, ◌⊎◌, ℕ, ◌^◌, ◌<◌, ◌≤◌, List, take, drop, slice_get, Option, Some, None}
 use Rattle.host_traits.specs.Held.{Held}
 use Rattle.host_traits.specs.Told.{Told, Exchanges, Calm, failures_of, heard_size}
 use Rattle.session_frames.specs.Frames.{Framed}

@@ -1,5 +1,5 @@
 -- The machine, its requests, and a moment of a run.
-use Rattle.std.specs.Prelude.{Bool, ◌≡◌, ℕ, ◌*◌, ◌≤◌, List, take, drop, slice_get, Option, Some, None, ◌==◌, if◌then◌else◌}
+use Rattle.std.specs.Prelude.{◌≡◌, ℕ, ◌*◌, ◌≤◌, List, take, drop, slice_get, Option, Some, None, ◌==◌, if◌then◌else◌}
 use Rattle.std.specs.Int.{w32, w64, from_le_bytes}
 use Rattle.host_traits.specs.Told.{Told, Exchanges, Made}
 use Rattle.session_frames.specs.Frames.{Framed}

@@ -1,11 +1,9 @@
 -- One call for a descriptor, and what came of it.
-use Rattle.std.proofs.Common.{◌≡◌, ℕ, ◌^◌, ◌≤◌, true, false, List, [], ◌∷◌, length, Result, Ok, Err, refl, sym, ap, subst, ⊎_elim, arith}
+use Rattle.std.proofs.Common.{◌≡◌, ℕ, ◌^◌, ◌≤◌, true, false, List, [], ◌∷◌, length, Result, Ok, Err, refl, sym, subst}
 use Rattle.std.specs.Prelude.{IfOk, nat_lt, if◌then◌else◌}
 use Rattle.sha2.specs.Sha256.{sha256}
 use Rattle.mg_base.specs.declared.values.Digest.{Digest}
-use Rattle.host_traits.specs.declared.calls.Call.{Call}
 use Rattle.host_traits.specs.declared.calls.Call.TheVariants.{Descriptor as DescriptorOf}
-use Rattle.host_traits.specs.declared.calls.Said.{Said}
 use Rattle.host_traits.specs.declared.calls.Said.TheVariants.{Bytes}
 use Rattle.host_traits.specs.Told.{Told, Answered}
 use Rattle.host_traits.specs.Did.{Did, trace_of}

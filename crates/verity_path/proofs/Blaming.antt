@@ -6,14 +6,13 @@ use Rattle.host_traits.specs.Told.{Told, Exchanges}
 use Rattle.host_traits.specs.Did.{Trace, trace_of, trace_after}
 use Rattle.host_traits.proofs.Doing.{failed_later, scarce_later, failed_so}
 use Rattle.sha_tree.specs.declared.measure.Measure.{Measure}
-use Rattle.sha_tree.specs.Tree.{page, page_hash}
+use Rattle.sha_tree.specs.Tree.{page}
 use Rattle.sha_tree.specs.Measured.{HasTree}
 use Rattle.sha_tree.specs.Path.{NoClash}
 use Rattle.sha_tree.proofs.Sound.{derived_more, other_page}
-use Rattle.verity_path.specs.States.{Met}
 use Rattle.verity_path.specs.Calls.{piece_for}
 use Rattle.verity_path.specs.Pieces.{IsPiece, IsHashed}
-use Rattle.verity_path.specs.Walk.{IsMismatch, IsWalkBlame, IsProved}
+use Rattle.verity_path.specs.Walk.{IsMismatch, IsWalkBlame}
 use Rattle.verity_path.specs.declared.states.Mismatch.{Mismatch}
 use Rattle.verity_path.specs.declared.walk.Layout.{Layout}
 use Rattle.verity_path.specs.declared.walk.WalkFault.{WalkFault}

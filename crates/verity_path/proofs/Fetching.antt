@@ -1,15 +1,13 @@
 -- One page of a walk, from the answer to its call.
-use Rattle.std.proofs.Common.{◌≡◌, ℕ, ◌+◌, ◌-◌, ◌<◌, ◌≤◌, ◌∙◌, List, [], ◌∷◌, length, drop, Ok, Err, refl, ap, sym, subst, inl, ⊎_elim, arith, length-take}
+use Rattle.std.proofs.Common.{◌≡◌, ℕ, ◌+◌, ◌-◌, ◌<◌, ◌≤◌, ◌∙◌, List, [], ◌∷◌, length, drop, Ok, Err, refl, ap, sym, subst, inl, arith, length-take}
 use Rattle.std.specs.Prelude.{◌≢◌, slice_range}
-use Rattle.host_traits.specs.declared.calls.Call.{Call}
-use Rattle.host_traits.specs.declared.calls.Said.{Said}
 use Rattle.host_traits.specs.declared.calls.Said.TheVariants.{Bytes}
 use Rattle.host_traits.specs.Told.{Told, Answered, Refused, Unheard, kind_bytes}
 use Rattle.host_traits.specs.Did.{Trace, trace_of, Did}
 use Rattle.host_traits.proofs.Doing.{did_answered, did_refused, did_unheard, is_failed}
 use Rattle.sha_tree.specs.Tree.{padded, page_hash}
 use Rattle.sha_tree.proofs.Pages.{length-padded}
-use Rattle.verity_path.specs.States.{Place, Met, IsMet}
+use Rattle.verity_path.specs.States.{Place}
 use Rattle.verity_path.specs.Calls.{call_for, piece_for, asked_for}
 use Rattle.verity_path.specs.Pieces.{IsPieceOf}
 use Rattle.verity_path.specs.Steps.{IsCallFor, IsPlaced, FetchOutcome}

@@ -1,9 +1,7 @@
 -- Right answers, in a longer work.
-use Rattle.std.proofs.Common.{◌≡◌, ℕ, List, [], ◌∷◌, ◌++◌, length, refl, ap, sym, subst, ◌∙◌, append_assoc, ⊎_elim}
-use Rattle.host_traits.specs.declared.calls.Call.{Call}
-use Rattle.host_traits.specs.declared.calls.Said.{Said}
+use Rattle.std.proofs.Common.{◌≡◌, ℕ, List, ◌++◌, length, ap, sym, ◌∙◌, append_assoc}
 use Rattle.host_traits.specs.Told.{Exchanges}
-use Rattle.host_traits.specs.Did.{Trace, IsIn}
+use Rattle.host_traits.specs.Did.{Trace}
 use Rattle.host_traits.proofs.Doing.{in_both}
 use Rattle.sha_tree.specs.declared.measure.Measure.{Measure}
 use Rattle.sha_tree.proofs.Sound.{derived_more}

@@ -1,10 +1,10 @@
 -- The order of calls, of one call and of one piece of work after another.
-use Rattle.std.proofs.Common.{◌≡◌, ℕ, zero, suc, ◌+◌, ◌-◌, ◌<◌, ◌≤◌, ◌∙◌, min, List, [], ◌∷◌, ◌++◌, length, map, take, Option, Some, None, refl, ap, sym, subst, append_assoc, append-nil, arith, inl}
+use Rattle.std.proofs.Common.{◌≡◌, ℕ, zero, suc, ◌+◌, ◌≤◌, ◌∙◌, List, [], ◌∷◌, ◌++◌, length, take, Option, Some, None, refl, ap, sym, subst, append_assoc, arith, inl}
 use Rattle.std.specs.Prelude.{slice_get}
 use Rattle.std.proofs.lemmas.List.{length-take, length-append, take_all}
 use Rattle.host_traits.specs.declared.calls.Call.{Call}
 use Rattle.host_traits.specs.declared.calls.Said.{Said}
-use Rattle.host_traits.specs.Told.{Told, Made, Talked, Exchanges, heard_of, failures_of, last_after}
+use Rattle.host_traits.specs.Told.{Told, Made, Talked, Exchanges, heard_of, failures_of}
 use Rattle.host_traits.specs.Did.{Trace, trace_of, trace_after, Did, Each, reads, IsIn}
 use Rattle.host_traits.proofs.Doing.{in_right}
 use Rattle.verity_path.specs.Order.{asked_in, IsInOrder, IsLast, IsLastShort}

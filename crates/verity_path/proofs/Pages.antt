@@ -3,8 +3,6 @@ use Rattle.std.proofs.Common.{◌≡◌, ℕ, zero, suc, ◌+◌, ◌-◌, ◌*�
 use Rattle.std.specs.Prelude.{◌==◌, if◌then◌else◌}
 use Rattle.std.proofs.lemmas.Bool.Decides.{nat_tests}
 use Rattle.std.proofs.lemmas.List.{length-take, length-drop, take_all, take-take, drop-take, drop-drop}
-use Rattle.host_traits.specs.declared.calls.Call.TheVariants.{BlockRead, FileRead, TreeRead}
-use Rattle.host_traits.specs.declared.calls.Said.{Said}
 use Rattle.host_traits.specs.declared.calls.Said.TheVariants.{Bytes}
 use Rattle.host_traits.specs.Held.{Held, serve}
 use Rattle.host_traits.proofs.Holding.{file_served, tree_served, sectors_served}

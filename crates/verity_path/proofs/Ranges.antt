@@ -1,5 +1,5 @@
 -- A read of a range, block by block.
-use Rattle.std.proofs.Common.{◌≡◌, ℕ, ◌+◌, ◌-◌, ◌*◌, ◌/◌, ◌%◌, ◌<◌, ◌≤◌, min, max, List, [], ◌∷◌, ◌++◌, zero, append_assoc, append-nil, length, take, drop, get_or, ap, sym, suc, ◌∙◌, refl, arith, ⊎_elim, Ok, Err}
+use Rattle.std.proofs.Common.{◌≡◌, ℕ, ◌+◌, ◌-◌, ◌*◌, ◌/◌, ◌%◌, ◌<◌, ◌≤◌, min, max, List, [], ◌++◌, zero, append_assoc, append-nil, length, take, drop, get_or, ap, sym, suc, ◌∙◌, refl, arith, ⊎_elim, Ok, Err}
 use Rattle.std.specs.Prelude.{slice_index, slice_range, ◌⊎◌}
 use Rattle.std.proofs.lemmas.List.{get_or-take, get_or-drop, get_or_append_left, length-take, length-drop, length-append, ext_get_or}
 use Rattle.std.proofs.Math.Nat.{suc-mul, mul-le-mul_right}
@@ -17,14 +17,14 @@ use Rattle.verity_path.specs.States.{Met}
 use Rattle.verity_path.specs.Calls.{IsOnPath}
 use Rattle.verity_path.specs.Order.{asked_in, blocks_calls, walk_calls}
 use Rattle.verity_path.specs.Pieces.{IsPiece, IsHashed}
-use Rattle.verity_path.specs.Walk.{IsProved, WalkOutcome}
+use Rattle.verity_path.specs.Walk.{WalkOutcome}
 use Rattle.verity_path.specs.Range.{end_of, touched, most_answers, read_calls, IsForRead, IsCut, RangeOutcome, RangeSoFar}
 use Rattle.verity_path.specs.declared.walk.Layout.{Layout}
 use Rattle.verity_path.specs.declared.walk.Layout.TheVariants.{File}
 use Rattle.verity_path.specs.declared.walk.WalkFault.{WalkFault}
 use Rattle.verity_path.proofs.Order.{asked-append, later_order}
 use Rattle.verity_path.proofs.Pieces.{piece_left, piece_right}
-use Rattle.verity_path.proofs.Judged.{right_left, right_right, right_both, right_later}
+use Rattle.verity_path.proofs.Judged.{right_right, right_both, right_later}
 use Rattle.verity_path.proofs.Walking.{sound}
 use Rattle.verity_path.proofs.Blaming.{blame_later, blame_so}
 
@@ -174,7 +174,7 @@ module _ (layout : Layout) (m : Measure) (size offset len end : ℕ) (end_is : e
       rw (← end_is) (touched_some offset end some ∙ omega (arith, from, last)) in
       let cut = blocks-cut layout m (index - offset / 4096) ((end + 4095) / 4096 - (index + 1)) (touched offset (end_of size offset len)) (offset / 4096) count in
       let whole : blocks_calls layout m (offset / 4096) (index - offset / 4096) ++ (walk_of layout m index ++ blocks_calls layout m (suc index) ((end + 4095) / 4096 - (index + 1)))
-          ≡ read_calls layout m size offset len =
+      ≡ read_calls layout m size offset len =
       ap (λ (b : ℕ). blocks_calls layout m (offset / 4096) (index - offset / 4096) ++ (walk_of layout m b ++ blocks_calls layout m (suc b) ((end + 4095) / 4096 - (index + 1)))) (sym at) ∙ cut in
       let all = did_then _ _ _ a b c _ _ (RangeOutcome layout m size offset len left (Err f)) d (did_so _ _ _ _ b c _ _ e (λ call. path_for index call from to) (omega arith) (λ t q. q)) (λ t so. so.0) (λ x y failed le so blame. (
         blame_later layout m (IsForRead layout m size offset len) a b c x y failed f le

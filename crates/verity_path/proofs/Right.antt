@@ -1,5 +1,5 @@
 -- A walk and a read of a range over a host that holds the content.
-use Rattle.std.proofs.Common.{◌≡◌, ℕ, zero, suc, ◌+◌, ◌-◌, ◌*◌, ◌/◌, ◌%◌, ◌<◌, ◌≤◌, ◌∙◌, min, max, List, [], ◌++◌, length, take, drop, replicate, Result, Ok, Err, refl, ap, sym, subst, arith}
+use Rattle.std.proofs.Common.{◌≡◌, ℕ, suc, ◌+◌, ◌-◌, ◌*◌, ◌/◌, ◌%◌, ◌<◌, ◌≤◌, ◌∙◌, min, max, List, [], ◌++◌, length, take, drop, Result, Ok, Err, refl, ap, sym, arith}
 use Rattle.std.specs.Prelude.{slice_range}
 use Rattle.std.proofs.lemmas.List.{length-take, length-drop, take-append-le, drop-append-le, drop-take, take-take, drop-drop}
 use Rattle.std.proofs.Math.Seq.{take-add}
@@ -7,14 +7,14 @@ use Rattle.host_traits.specs.Did.{Trace}
 use Rattle.host_traits.specs.Told.{Told, Made, Talked, Calm}
 use Rattle.host_traits.proofs.Holding.{calm_first, calm_rest}
 use Rattle.sha_tree.specs.declared.measure.Measure.{Measure}
-use Rattle.sha_tree.specs.Tree.{block, page, page_hash, pages_at, slot, ancestor, top, block_count}
+use Rattle.sha_tree.specs.Tree.{block, page, page_hash, pages_at, slot, ancestor, top}
 use Rattle.sha_tree.specs.Measured.{HasTree}
 use Rattle.sha_tree.proofs.Levels.{ancestor-page, ancestor-zero}
 use Rattle.sha_tree.proofs.Pages.{slot-page, root-some}
 use Rattle.verity_path.specs.States.{Place, Met}
 use Rattle.verity_path.specs.Steps.{IsBelow}
 use Rattle.verity_path.specs.Range.{end_of}
-use Rattle.verity_path.specs.Holding.{WhereHeld, OrMemory, IsAnchored, ProvedIsRight, BelowIsRight, WalkIsRight, RangeIsRight}
+use Rattle.verity_path.specs.Holding.{WhereHeld, IsAnchored, ProvedIsRight, BelowIsRight, WalkIsRight, RangeIsRight}
 use Rattle.verity_path.specs.declared.walk.Layout.{Layout}
 use Rattle.verity_path.specs.declared.walk.WalkFault.{WalkFault}
 use Rattle.verity_path.proofs.Walking.{IsAt, next_at}

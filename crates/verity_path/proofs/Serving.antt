@@ -1,10 +1,9 @@
 -- One page of a walk over a host that holds the content.
-use Rattle.std.proofs.Common.{◌≡◌, ℕ, ◌+◌, ◌<◌, ◌≤◌, ◌∙◌, List, [], ◌∷◌, length, Option, Some, None, Ok, Err, refl, ap, sym, subst, arith}
+use Rattle.std.proofs.Common.{◌≡◌, ℕ, ◌+◌, ◌<◌, ◌≤◌, ◌∙◌, List, [], length, Some, Ok, Err, refl, ap, sym, subst, arith}
 use Rattle.std.specs.Prelude.{◌≢◌, ◌-◌, ◌%◌, slice_range}
-use Rattle.host_traits.specs.declared.calls.Said.{Said}
 use Rattle.host_traits.specs.declared.calls.Said.TheVariants.{Bytes}
 use Rattle.host_traits.specs.Held.{Held, serve}
-use Rattle.host_traits.specs.Told.{Told, Calm, Asked, Answered, Refused, Unheard}
+use Rattle.host_traits.specs.Told.{Told, Asked, Answered, Refused, Unheard}
 use Rattle.host_traits.specs.declared.host.HostError.{HostError}
 use Rattle.host_traits.specs.declared.host.HostError.TheVariants.{Failed, Memory}
 use Rattle.host_traits.proofs.Holding.{held_answered, held_refused, held_unheard, calm_served, same_answer}
@@ -14,7 +13,7 @@ use Rattle.sha_tree.specs.Measured.{HasTree}
 use Rattle.verity_path.specs.States.{Place, Met}
 use Rattle.verity_path.specs.Calls.{call_for, piece_for, asked_for}
 use Rattle.verity_path.specs.Steps.{IsPlaced}
-use Rattle.verity_path.specs.Holding.{HoldsAt, IsAnchored, PageIsRight, ProvedIsRight, BelowIsRight}
+use Rattle.verity_path.specs.Holding.{HoldsAt, PageIsRight, ProvedIsRight, BelowIsRight}
 use Rattle.verity_path.specs.declared.states.Mismatch.{Mismatch}
 use Rattle.verity_path.specs.declared.ask.Piece.{Piece}
 use Rattle.verity_path.specs.declared.walk.Layout.{Layout}

@@ -12,10 +12,10 @@ use Rattle.sha_tree.specs.Measured.{HasTree}
 use Rattle.sha_tree.specs.Path.{IsDerived, NoClash}
 use Rattle.sha_tree.proofs.Levels.{ancestor-top, ancestor-page, ancestor-above, ancestor-zero}
 use Rattle.sha_tree.proofs.Sound.{derived_more, derived_top, derived_below, all_sound}
-use Rattle.verity_path.specs.States.{Place, Met, IsMet}
+use Rattle.verity_path.specs.States.{Place, Met}
 use Rattle.verity_path.specs.Calls.{IsOnPath, asked_for, call_for, piece_for}
 use Rattle.verity_path.specs.Order.{IsInOrder, asked_in, walk_calls}
-use Rattle.verity_path.specs.Judged.{IsRightAnswer, AreRight, AreRightBefore, judged}
+use Rattle.verity_path.specs.Judged.{AreRight}
 use Rattle.verity_path.specs.Pieces.{IsPiece, IsHashed}
 use Rattle.verity_path.specs.Steps.{IsCallFor, IsFetched, IsFetchBlame, ProvedOutcome, IsBelow}
 use Rattle.verity_path.specs.Walk.{IsWalkBlame, IsProved, WalkOutcome}
