@@ -18,11 +18,11 @@ use Rattle.fuse_server.specs.Rows.{IsFileRead, ReadRow, read_bytes, read_blamed,
 module _ (f : MeasuredFile) (offset size unique : ℕ) (bytes : List ℕ) where
   row_of : (t : Trace) (r : Result (Unit {0}) WalkFault) → RangeOutcome (layout_of f) f.measure f.size offset size bytes r t
       → ReadRow f offset size t (answer_by (read_answer unique r).reply bytes) (read_answer unique r).cause
-  row_of t (Ok u) w = read_bytes bytes w.0 w.1 w.2
-  row_of t (Err (fault.Mismatch x)) w = read_blamed (cause.Mismatch x) w.0 w.1
-  row_of t (Err (fault.Short asked got)) w = read_blamed (cause.Short asked got) w.0 w.1
-  row_of t (Err (fault.Failed faults)) w = read_blamed (cause.Failed faults) w.0 w.1
-  row_of t (Err fault.Memory) w = read_no_room w.0 w.1
+  row_of t (Ok u) w = read_bytes bytes w.0 w.1 w.2 w.3
+  row_of t (Err (fault.Mismatch x)) w = read_blamed (cause.Mismatch x) w.0 w.1 w.2
+  row_of t (Err (fault.Short asked got)) w = read_blamed (cause.Short asked got) w.0 w.1 w.2
+  row_of t (Err (fault.Failed faults)) w = read_blamed (cause.Failed faults) w.0 w.1 w.2
+  row_of t (Err fault.Memory) w = read_no_room w.0 w.1 w.2
 
   pub read_row : (a b : Told) (r : Result (Unit {0}) WalkFault)
       → Did (IsFileRead f offset size) (most_answers f.measure f.size offset size) a b (RangeOutcome (layout_of f) f.measure f.size offset size bytes r)

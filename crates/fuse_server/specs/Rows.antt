@@ -6,6 +6,7 @@ use Rattle.host_traits.specs.declared.calls.Call.{Call}
 use Rattle.host_traits.specs.Told.{Told}
 use Rattle.host_traits.specs.Did.{Trace, IsScarce}
 use Rattle.verity_path.specs.Range.{IsCut, IsReadBlame, IsForRead, most_answers, read_calls, end_of}
+use Rattle.verity_path.specs.Judged.{AreRight, AreRightBefore, judged_by}
 use Rattle.verity_path.specs.Order.{IsInOrder, asked_in}
 use Rattle.verity_path.specs.Holding.{WhereHeld}
 use Rattle.verity_path.specs.declared.device.Cause.{Cause}
@@ -30,12 +31,14 @@ pub record IsPlain (t : Trace) (expected answer : Answer) (c : Option Cause) : T
   pub no_cause : c ≡ None
 
 -- READ: bytes that were cut from pages of the file which were heard in this call, where each call of the read was made, in its
--- order; or EIO, with the cause in what was heard; or want of memory of the host's; in both the first calls of the read were made
+-- order, and each answer is right; or EIO, with the cause in what was heard; or want of memory of the host's; in both the first
+-- calls of the read were made, and each answer but the one that is the cause is right
 pub data ReadRow (f : MeasuredFile) (offset size : ℕ) (t : Trace) : Answer → Option Cause → Type 0 where
   read_bytes : (bytes : List ℕ) → t.failed ≡ 0 → IsCut t.own f.measure offset (end_of f.size offset size) bytes → asked_in t.own ≡ file_calls f offset size
-      → ReadRow f offset size t (bytes_out bytes) None
-  read_blamed : (c : Cause) → IsReadBlame (layout_of f) f.measure (IsFileRead f offset size) t c → IsInOrder (file_calls f offset size) t → ReadRow f offset size t (refused Eio) (Some c)
-  read_no_room : IsScarce t → IsInOrder (file_calls f offset size) t → ReadRow f offset size t (refused Enomem) None
+      → AreRight (layout_of f) f.measure t.own t.own → ReadRow f offset size t (bytes_out bytes) None
+  read_blamed : (c : Cause) → IsReadBlame (layout_of f) f.measure (IsFileRead f offset size) t c → IsInOrder (file_calls f offset size) t
+      → AreRightBefore (layout_of f) f.measure t.own (judged_by c) → ReadRow f offset size t (refused Eio) (Some c)
+  read_no_room : IsScarce t → IsInOrder (file_calls f offset size) t → AreRightBefore (layout_of f) f.measure t.own 0 → ReadRow f offset size t (refused Enomem) None
 
 -- when each answer comes
 abbrev pub AimRow : Aim → Trace → Answer → Option Cause → Type 0
