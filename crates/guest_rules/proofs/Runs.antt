@@ -4,7 +4,7 @@ use Rattle.std.specs.Prelude.{flat_map}
 use Rattle.std.specs.Io.KnownBytes.{Appends}
 use Rattle.host_traits.specs.declared.calls.Call.{Call}
 use Rattle.host_traits.specs.Told.{Told, Exchanges, heard_more, heard_of, heard_size, failures_of}
-use Rattle.host_traits.specs.Did.{Trace, trace_of, trace_after, reads, Did}
+use Rattle.host_traits.specs.Did.{Trace, trace_of, reads, Did}
 use Rattle.host_traits.proofs.Doing.{each_so}
 use Rattle.host_traits.proofs.Talking.{heard_of-append, talked_not, talked_on}
 use Rattle.session_frames.specs.Frames.{Framed}
@@ -19,7 +19,7 @@ use Rattle.guest_rules.specs.Run.{Run, Runs, Ran, calls_of, out_bytes, log_line,
 -- a request by the work that was done for it
 pub stepped : (items : List Device) (old_state new_state : State) (a b : Told) (frame : Framed) (sent : Sent) (cause : Option Cause) (F : Call → Type 0) (most : ℕ) (P : Trace → Type 0)
     → Did F most a b P → ((call : Call) → F call → IsFor items (request_of frame) call) → most ≤ most_for items (request_of frame)
-    → ((heard own : Exchanges) (failed : ℕ) → P (trace_of own failed a b) → Row items nowhere (trace_after heard own failed a b) (request_of frame) old_state new_state sent cause)
+    → ((own : Exchanges) (failed : ℕ) → P (trace_of own failed a b) → Row items nowhere (trace_of own failed a b) (request_of frame) old_state new_state sent cause)
     → Stepped items old_state new_state a b frame sent cause
 stepped items old_state new_state a b frame sent cause F most P d for few row = record {
   own = d.own;
@@ -30,7 +30,7 @@ stepped items old_state new_state a b frame sent cause F most P d for few row = 
     calls = each_so (reads F) (reads (IsFor items (request_of frame))) d.own (λ call given p. (for call p.0, p.1)) d.calls;
     few = omega (arith, d.few, few);
     stops = d.stops;
-    row = row heard (heard_of d.own) (failures_of d.own) d.outcome;
+    row = row (heard_of d.own) (failures_of d.own) d.outcome;
   };
 }
 

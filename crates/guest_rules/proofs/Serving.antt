@@ -6,7 +6,7 @@ use Rattle.host_traits.specs.declared.calls.Call.{Call}
 use Rattle.host_traits.specs.declared.calls.Said.{Said}
 use Rattle.host_traits.specs.declared.calls.Said.TheVariants.{Bytes}
 use Rattle.host_traits.specs.Held.{Held, serve}
-use Rattle.host_traits.specs.Told.{heard_of, failures_of, kind_of, kind_bytes}
+use Rattle.host_traits.specs.Told.{Exchanges, heard_of, failures_of, kind_of, kind_bytes}
 use Rattle.host_traits.specs.Did.{IsIn, reads, Trace, IsShort}
 use Rattle.host_traits.proofs.Doing.{each_heard}
 use Rattle.session_frames.specs.Replies.{Sent}
@@ -31,7 +31,7 @@ use Rattle.guest_rules.specs.ItemRow.{IsForItem, ItemRow, no_item, too_large, se
 use Rattle.guest_rules.specs.Step.{Step, IsFor, Row, trace}
 use Rattle.guest_rules.specs.Run.{IsWorld}
 use Rattle.guest_rules.specs.Faithful.{HoldsDevice, IsDefined, over_limit, whole, no_room}
-use Rattle.guest_rules.proofs.Standing.{item_hashed}
+use Rattle.guest_rules.proofs.Standing.{item_hashed, world_last}
 use Rattle.guest_rules.proofs.Holding.{AreServed}
 use Rattle.guest_rules.proofs.Devices.{page_held}
 
@@ -120,4 +120,5 @@ pub defined_over : (items : List Device) (world : World) (old : Moment) (turn : 
 defined_over items world old turn new h r it content step request at item is w truly holds calm =
     let for : (call : Call) (said : Said) → IsIn call said (heard_of turn.own) → IsForItem it r call = λ call said i.
     calls_of items _ r it call request at (each_heard (reads (IsFor items (request_of turn.frame))) turn.own step.calls call said i).1.0 in
-    defined items world (trace old turn new) h r it content at item is w truly holds for calm turn.sent turn.cause (row_of items world (trace old turn new) _ old.state new.state turn.sent turn.cause r request step.row)
+    let own : IsWorld items world (heard_of turn.own) = world_last items world old.heard (heard_of turn.own) (subst (λ (x : Exchanges). IsWorld items world x) step.heard w) in
+    defined items world (trace old turn new) h r it content at item is own truly holds for calm turn.sent turn.cause (row_of items world (trace old turn new) _ old.state new.state turn.sent turn.cause r request step.row)

@@ -1,5 +1,5 @@
 -- A run in the world without contents is one in each world that meets the premises.
-use Rattle.std.proofs.Common.{◌≡◌, ℕ, List, [], ◌∷◌, ◌++◌, take, drop, refl, ap, sym, ◌∙◌, inl, inr, ⊎_elim, append_assoc, append-nil, Option, Some, None}
+use Rattle.std.proofs.Common.{◌≡◌, ℕ, List, [], ◌∷◌, ◌++◌, take, drop, refl, ap, sym, subst, ◌∙◌, inl, inr, ⊎_elim, append_assoc, append-nil, Option, Some, None}
 use Rattle.std.specs.Prelude.{slice_get}
 use Rattle.host_traits.specs.Told.{Exchanges, heard_of}
 use Rattle.host_traits.specs.Did.{Trace}
@@ -9,7 +9,7 @@ use Rattle.sha_tree.specs.Path.{NoClash}
 use Rattle.sha_tree.proofs.Sound.{measured_tree}
 use Rattle.verity_path.specs.Pieces.{IsHashed}
 use Rattle.verity_path.specs.Range.{IsCut, IsSlice, end_of}
-use Rattle.verity_path.proofs.Pieces.{piece_left}
+use Rattle.verity_path.proofs.Pieces.{piece_left, piece_right}
 use Rattle.verity_path.proofs.Ranges.{cut_content}
 use Rattle.verity_path.specs.declared.device.Cause.{Cause}
 use Rattle.verity_path.specs.declared.device.Device.{Device}
@@ -32,6 +32,15 @@ world_less items world xs ys w = record {
 } where
   more : (x : List ℕ) → IsRunHashed items world xs x → IsRunHashed items world (xs ++ ys) x
   more x h = ⊎_elim (λ a. inl (a.0, a.1, a.2, a.3, piece_left xs ys a.3 a.4, a.5)) (λ b. inr b) h
+
+-- the world of what was heard last
+pub world_last : (items : List Device) (world : World) (xs ys : Exchanges) → IsWorld items world (xs ++ ys) → IsWorld items world ys
+world_last items world xs ys w = record {
+  measured = w.measured;
+  no_clash = λ x y hx hy. w.no_clash x y (more x hx) (more y hy);
+} where
+  more : (x : List ℕ) → IsRunHashed items world ys x → IsRunHashed items world (xs ++ ys) x
+  more x h = ⊎_elim (λ a. inl (a.0, a.1, a.2, a.3, piece_right xs ys a.3 a.4, a.5)) (λ b. inr b) h
 
 by_content : (o : Option (List ℕ)) (heard : Exchanges) (m : Measure) (size offset len : ℕ) (bytes : List ℕ) → IsCut heard m offset (end_of size offset len) bytes
     → ((content : List ℕ) → o ≡ Some content → bytes ≡ take len (drop offset content)) → IsSlice o heard m size offset len bytes
@@ -66,7 +75,8 @@ module _ (items : List Device) (world : World) where
   run_in old [] new w e = e
   run_in old (t ∷ turns) new w r =
       let rest = run_heard r.0 turns new r.3 in
-      let w_mid : IsWorld items world r.0.heard = world_less items world r.0.heard rest.0 (rw rest.1 at w) in (
+      let w_mid : IsWorld items world r.0.heard = world_less items world r.0.heard rest.0 (rw rest.1 at w) in
+      let w_own : IsWorld items world (heard_of t.own) = world_last items world old.heard (heard_of t.own) (subst (λ (h : Exchanges). IsWorld items world h) r.2.heard w_mid) in (
         r.0,
         r.1,
         record {
@@ -75,7 +85,7 @@ module _ (items : List Device) (world : World) where
           calls = r.2.calls;
           few = r.2.few;
           stops = r.2.stops;
-          row = row_in _ (request_of t.frame) old.state r.0.state t.sent t.cause w_mid r.2.row;
+          row = row_in _ (request_of t.frame) old.state r.0.state t.sent t.cause w_own r.2.row;
         },
         run_in r.0 turns new w r.3,
       )

@@ -2,7 +2,7 @@
 use Rattle.std.specs.Prelude.{◌≡◌, ℕ, ◌≤◌, List, ◌++◌, length, slice_get, Option, Some, None}
 use Rattle.host_traits.specs.declared.calls.Call.{Call}
 use Rattle.host_traits.specs.Told.{Told, Talked, Made, Exchanges, heard_of, failures_of}
-use Rattle.host_traits.specs.Did.{Trace, Each, reads, StopsAtFailure}
+use Rattle.host_traits.specs.Did.{Trace, trace_of, Each, reads, StopsAtFailure}
 use Rattle.session_frames.specs.Frames.{Framed}
 use Rattle.session_frames.specs.Replies.{Sent}
 use Rattle.verity_path.specs.declared.device.Cause.{Cause}
@@ -30,9 +30,9 @@ abbrev pub Row : List Device → World → Trace → Request → State → State
 Row items world t (read_of r) old new sent cause = (new ≡ old) × ItemRow items world t r sent cause
 Row items world t unbuilt old new sent cause = ⊥
 
--- the answers to a turn's own calls, after all that was heard before, and how many of its calls failed
+-- the answers to a turn's own calls, and how many of its calls failed: what was heard before says nothing of its reply
 abbrev pub trace : Moment → Turn → Moment → Trace
-trace old turn new = record { heard = new.heard; own = heard_of turn.own; failed = failures_of turn.own; before = old.told.faults; after = new.told.faults; last_failed = new.told.last_failed; scarce = new.told.scarce }
+trace old turn new = trace_of (heard_of turn.own) (failures_of turn.own) old.told new.told
 
 -- one request, from a moment to the next: these calls were made, and no other; each belongs to the request, and none follows one
 -- that failed; and what came of them
