@@ -3,7 +3,7 @@ use Rattle.std.proofs.Common.{ℕ, ◌<◌, ◌≤◌, ◌∙◌, List, ◌++◌
 use Rattle.std.specs.Prelude.{◌≢◌}
 use Rattle.host_traits.specs.declared.calls.Call.{Call}
 use Rattle.host_traits.specs.Told.{Told, Exchanges}
-use Rattle.host_traits.specs.Did.{Trace, trace_of, trace_after}
+use Rattle.host_traits.specs.Did.{Trace, trace_of}
 use Rattle.host_traits.proofs.Doing.{failed_later, scarce_later, failed_so}
 use Rattle.sha_tree.specs.declared.measure.Measure.{Measure}
 use Rattle.sha_tree.specs.Tree.{page}
@@ -36,41 +36,6 @@ blame_later layout m F a b c x y failed (fault.Mismatch w) le q = record {
 blame_later layout m F a b c x y failed (fault.Short asked got) le q = last_short_later a b c x y failed asked got q
 blame_later layout m F a b c x y failed (fault.Failed faults) le q = failed_later F a b c x y failed faults le q
 blame_later layout m F a b c x y failed fault.Memory le q = scarce_later a b c x y failed q
-
--- what is blamed is blamed where more was heard before
-pub blame_wider : (layout : Layout) (m : Measure) (F : Call → Type 0) (a b : Told) (heard own : Exchanges) (failed : ℕ) (fault : WalkFault) →
-    IsWalkBlame layout m F (trace_of own failed a b) fault → IsWalkBlame layout m F (trace_after heard own failed a b) fault
-blame_wider layout m F a b heard own failed (fault.Mismatch w) q = record {
-  failed = q.failed;
-  differ = q.differ;
-  bytes = q.bytes;
-  own = q.own;
-  whole = q.whole;
-  piece = q.piece;
-  found = q.found;
-  expected = derived_more (IsPiece own) (IsPiece (heard ++ own)) m (piece_right heard own) w.level w.index w.expected.0 q.expected;
-}
-blame_wider layout m F a b heard own failed (fault.Short asked got) q = record {
-  short = record {
-    failed = q.short.failed;
-    call = q.short.call;
-    bytes = q.short.bytes;
-    own = q.short.own;
-    asks = q.short.asks;
-    got_is = q.short.got_is;
-    short = q.short.short;
-  };
-  last = q.last;
-}
-blame_wider layout m F a b heard own failed (fault.Failed faults) q = record {
-  failed = q.failed;
-  rose = q.rose;
-  count = q.count;
-  call = q.call;
-  last = q.last;
-  for = q.for;
-}
-blame_wider layout m F a b heard own failed fault.Memory q = record { failed = q.failed; scarce = q.scarce }
 
 pub blame_so : (layout : Layout) (m : Measure) (F G : Call → Type 0) (t : Trace) (fault : WalkFault) → ((call : Call) → F call → G call) →
     IsWalkBlame layout m F t fault → IsWalkBlame layout m G t fault

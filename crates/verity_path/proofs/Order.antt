@@ -5,7 +5,7 @@ use Rattle.std.proofs.lemmas.List.{length-take, length-append, take_all}
 use Rattle.host_traits.specs.declared.calls.Call.{Call}
 use Rattle.host_traits.specs.declared.calls.Said.{Said}
 use Rattle.host_traits.specs.Told.{Told, Made, Talked, Exchanges, heard_of, failures_of}
-use Rattle.host_traits.specs.Did.{Trace, trace_of, trace_after, Did, Each, reads, IsIn}
+use Rattle.host_traits.specs.Did.{Trace, trace_of, Did, Each, reads, IsIn}
 use Rattle.host_traits.proofs.Doing.{in_right}
 use Rattle.verity_path.specs.Order.{asked_in, IsInOrder, IsLast, IsLastShort}
 
@@ -64,11 +64,6 @@ later_order first part rest whole u v failed x y z is was order =
           ap (λ (cs : List Call). slice_get cs (length (u ++ v))) (sym is) ∙ ap (slice_get (first ++ (part ++ rest))) size ∙ get-front first (part ++ rest) (length v)
           ∙ get-more part rest (length v) call (order.failed call one last);
     }
-
--- what was heard before says nothing of the order
-pub order_wider : (asked : List Call) (a b : Told) (heard own : Exchanges) (failed : ℕ) → IsInOrder asked (trace_of own failed a b)
-    → IsInOrder asked (trace_after heard own failed a b)
-order_wider asked a b heard own failed order = record { answered = order.answered; failed = order.failed }
 
 same_call : (a b : Call) → Some a ≡ Some b → a ≡ b
 same_call a b e = cc

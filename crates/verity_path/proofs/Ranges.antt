@@ -198,15 +198,6 @@ pub range_none : (layout : Layout) (m : Measure) (size offset len : ℕ) (a : To
 range_none layout m size offset len a bytes u le none =
     rw none (did_none _ _ a _ (refl, cut_none [] m offset _ le, ap (blocks_calls layout m (offset / 4096)) (sym (touched_none offset (end_of size offset len) le)), λ call said i. absurd i))
 
--- more heard ties no less
-pub cut_wider : (heard own : Exchanges) (m : Measure) (offset end : ℕ) (bytes : List ℕ) → IsCut own m offset end bytes → IsCut (heard ++ own) m offset end bytes
-cut_wider heard own m offset end bytes cut = record {
-  len = cut.len;
-  each = λ j lt.
-      let old = cut.each j lt in
-      (old.0, piece_right heard own old.0 old.1, derived_more (IsPiece own) (IsPiece (heard ++ own)) m (λ p. piece_right heard own p) 0 ((offset + j) / 4096) (page_hash m.salt old.0) old.2, old.3);
-}
-
 -- a byte of a block is a byte of the content
 byte_of_block : (content : List ℕ) (i j : ℕ) → j < 4096 → 4096 * i + j < length content → get_or (content_block content i) j 0 ≡ get_or content (4096 * i + j) 0
 unfolding content_block
