@@ -11,10 +11,11 @@ use Rattle.mg_base.specs.declared.errno.Errno.TheVariants as errno
 use Rattle.authfs_dirs.specs.declared.kind.Kind.{Kind}
 use Rattle.authfs_dirs.specs.declared.kind.Kind.TheVariants.{Dir}
 use Rattle.authfs_dirs.specs.Names.{Entry, Node, NodeMap, Names, node_at, with_nodes, ◌>>=◌, needs, found, AreAlone, lives, is_dir, host_of, changed, settled, named, named_in, node_named, with_name, without_name, orphan, one_more, with_lookups, with_pins, new_node, made_in, cleared, reset_node, removed_of, removed_from, directory, fits, at_first, may_plant, planted, lookup_check, looked_up, with_room, may_add, added, may_remove, removed, forgotten, pinned, unpinned, IsReset}
-use Rattle.authfs_dirs.specs.Tree.{IsChild, AreTree, IsSoundTree, StaysSound, FindsChildren}
+use Rattle.authfs_dirs.specs.Tree.{IsChild, AreTree, AreRising, IsSoundTree, StaysSound, FindsChildren}
 use Rattle.authfs_dirs.proofs.SeenLemmas.{turned, same_number}
 use Rattle.authfs_dirs.proofs.MayLemmas.{passed, found_is, may_add_is, may_plant_is, directory_is, no_name}
 use Rattle.authfs_dirs.proofs.TreeLemmas.{At, Thins, Keeps, kept, get_changed, get_settled, own_number, other_number, thins_same, thin, grown, cut, none_named, some_none, the_same}
+use Rattle.authfs_dirs.proofs.EachLemmas.{Each, each_changed, each_settled, each_inserted, each_reset, rising_push, rising_unnamed, len_changed, len_settled, len_made, len_inserted, len_numbers, len_reset}
 
 abbrev Live : At → Type 0
 Live at = (n : ℕ) (x : Node) → at n ≡ Some x → lives n x ≡ true
@@ -127,37 +128,52 @@ lives_placed q p x e = second_of_four (q == 1) (is_some x.parent) (nat_lt 0 x.pi
 
 -- ---- the calls
 
-same_map : (s : Names) (m : NodeMap) → AreTree (of_map m) s.last → Live (of_map m) → IsSoundTree (with_nodes s m)
-same_map s m tree live = record { tree = tree; live = live }
+abbrev Rising : Node → Type 0
+Rising x = AreRising 3 x.entries x.cookie
+
+same_map : (s : Names) (m : NodeMap) → AreTree (of_map m) s.last → Live (of_map m) → Each Rising m → table.len m ≤ 65536 → IsSoundTree (with_nodes s m)
+same_map s m tree live cookies few = record { tree = tree; live = live; cookies = cookies; few = few }
+
+few_changed : (m : NodeMap) (n : ℕ) (f : Node → Node) → table.len m ≤ 65536 → table.len (changed m n f) ≤ 65536
+few_changed m n f few = let same = len_changed m n f in omega arith
+
+few_settled : (m : NodeMap) (n : ℕ) → table.len m ≤ 65536 → table.len (settled m n) ≤ 65536
+few_settled m n few = let less = len_settled m n in omega arith
 
 sound_lookup : (s : Names) (n : ℕ) → IsSoundTree s → IsSoundTree (looked_up s n)
 unfolding looked_up
 sound_lookup s n is = same_map s _
     (thin (node_at s) _ s.last is.tree (thins_changed s.nodes n (λ x. with_lookups (one_more x.lookups) x) (λ x. (refl, refl, refl))))
     (live_changed s.nodes n (λ x. with_lookups (one_more x.lookups) x) is.live (λ k z h. last_of_four (k == 1) (is_some z.parent) (nat_lt 0 z.pins) (nat_lt 0 (one_more z.lookups)) (more z.lookups)))
+    (each_changed Rising s.nodes n (λ x. with_lookups (one_more x.lookups) x) is.cookies (λ z h. h))
+    (few_changed s.nodes n (λ x. with_lookups (one_more x.lookups) x) is.few)
 
 sound_pin : (s : Names) (n : ℕ) → IsSoundTree s → IsSoundTree (pinned s n)
 unfolding pinned
 sound_pin s n is = same_map s _
     (thin (node_at s) _ s.last is.tree (thins_changed s.nodes n (λ x. with_pins (one_more x.pins) x) (λ x. (refl, refl, refl))))
     (live_changed s.nodes n (λ x. with_pins (one_more x.pins) x) is.live (λ k z h. third_of_four (k == 1) (is_some z.parent) (nat_lt 0 (one_more z.pins)) (nat_lt 0 z.lookups) (more z.pins)))
+    (each_changed Rising s.nodes n (λ x. with_pins (one_more x.pins) x) is.cookies (λ z h. h))
+    (few_changed s.nodes n (λ x. with_pins (one_more x.pins) x) is.few)
 
-lowered : (s : Names) (n : ℕ) (f : Node → Node) → ((x : Node) → Keeps x (f x)) → IsSoundTree s → IsSoundTree (with_nodes s (settled (changed s.nodes n f) n))
-lowered s n f keeps is =
+lowered : (s : Names) (n : ℕ) (f : Node → Node) → ((x : Node) → Keeps x (f x)) → ((x : Node) → Rising x → Rising (f x)) → IsSoundTree s → IsSoundTree (with_nodes s (settled (changed s.nodes n f) n))
+lowered s n f keeps rising is =
     let between : AreTree (of_map (changed s.nodes n f)) s.last = thin (node_at s) _ s.last is.tree (thins_changed s.nodes n f keeps) in
     same_map s _ (thin (of_map (changed s.nodes n f)) _ s.last between (thins_settled (changed s.nodes n f) n)) (live_settled (changed s.nodes n f) n (other_live s.nodes n f is.live))
+    (each_settled Rising (changed s.nodes n f) n (each_changed Rising s.nodes n f is.cookies rising))
+    (few_settled (changed s.nodes n f) n (few_changed s.nodes n f is.few))
 
 sound_forget : (s : Names) (n count : ℕ) → IsSoundTree s → IsSoundTree (forgotten s n count)
 unfolding forgotten
-sound_forget s n count is = lowered s n (λ x. with_lookups (x.lookups - count) x) (λ x. (refl, refl, refl)) is
+sound_forget s n count is = lowered s n (λ x. with_lookups (x.lookups - count) x) (λ x. (refl, refl, refl)) (λ x h. h) is
 
 sound_unpin : (s : Names) (n : ℕ) → IsSoundTree s → IsSoundTree (unpinned s n)
 unfolding unpinned
-sound_unpin s n is = lowered s n (λ x. with_pins (x.pins - 1) x) (λ x. (refl, refl, refl)) is
+sound_unpin s n is = lowered s n (λ x. with_pins (x.pins - 1) x) (λ x. (refl, refl, refl)) (λ x h. h) is
 
 sound_room : (s : Names) (room : Option ℕ) → IsSoundTree s → IsSoundTree (with_room s room)
 unfolding with_room
-sound_room s room is = record { tree = is.tree; live = is.live }
+sound_room s room is = record { tree = is.tree; live = is.live; cookies = is.cookies; few = is.few }
 
 reset_by : (q : ℕ) (x : Node) (b : Bool) → lives q (cleared x) ≡ b → Thins q (Some x) (if b then Some (cleared x) else None)
 reset_by q x true e = (refl, refl, refl)
@@ -177,6 +193,8 @@ sound_reset s t is so =
     record {
       tree = subst (λ k. AreTree (node_at t) k) (sym so.last) tree;
       live = λ n x e. live_reset n x (node_at s n) (sym (so.nodes n) ∙ e);
+      cookies = each_reset Rising s.nodes t.nodes is.cookies (λ z h. h) so.nodes;
+      few = let less = len_reset s.nodes t.nodes so.nodes in let few = is.few in omega arith;
     }
 
 -- ---- a node added
@@ -208,6 +226,16 @@ made_tree m last parent name d fresh is there dir none placed bare within =
     (get_made m parent n parent name fresh ∙ rw (other_number (last + 1) parent apart, own_number parent, there) refl)
     (λ q ne ne'. get_made m parent n q name fresh ∙ rw (other_number (last + 1) q (turn ne), other_number parent q (turn ne')) refl)
 
+made_rising : (m : NodeMap) (parent n : ℕ) (name : List ℕ) (fresh : Node) → Each Rising m → Rising fresh → Each Rising (made_in m parent name n fresh)
+made_rising m parent n name fresh was new = each_inserted Rising (changed m parent (with_name name n)) n fresh
+    (each_changed Rising m parent (with_name name n) was (λ z h. rising_push 3 z.cookie z.entries name n h)) new
+
+fresh_rising : 3 ≤ 3
+fresh_rising = omega arith
+
+below : (a b : ℕ) → nat_lt a b ≡ true → a + 1 ≤ b
+below a b e = grind (arith, nat_tests)
+
 sound_plant : (s : Names) (name : List ℕ) (kind : Kind) → IsSoundTree s → IsTrue (may_plant s name) → IsSoundTree (planted s name kind)
 unfolding planted
 sound_plant s name kind is may =
@@ -216,6 +244,12 @@ sound_plant s name kind is may =
     record {
       tree = made_tree s.nodes s.last 1 name root.node (new_node (Some 1) kind 0) is.tree root.there root.dir (no_name name root.node.entries new) (λ none ne. ne refl) refl refl;
       live = made_live s.nodes 1 (s.last + 1) name root.node (new_node (Some 1) kind 0) is.live root.there refl;
+      cookies = made_rising s.nodes 1 (s.last + 1) name (new_node (Some 1) kind 0) is.cookies fresh_rising;
+      few =
+          let more = len_made s.nodes 1 (s.last + 1) name (new_node (Some 1) kind 0) in
+          let numbers = len_numbers s.last s.nodes is.tree.numbers in
+          let last = below s.last 65536 (may_plant_is s name may).1 in
+          omega arith;
     }
 
 sound_add : (s : Names) (parent : ℕ) (name : List ℕ) (kind : Kind) → IsSoundTree s → IsOk (may_add s parent name) → IsSoundTree (added s parent name kind)
@@ -225,6 +259,11 @@ sound_add s parent name kind is ok =
     record {
       tree = made_tree s.nodes s.last parent name may.dir (new_node (Some parent) kind 1) is.tree may.there may.kind (no_name name may.dir.entries may.new) (λ none ne. absurd (let h : is_some may.dir.parent ≡ false = ap is_some none in let p = may.placed in cc)) refl refl;
       live = made_live s.nodes parent (s.last + 1) name may.dir (new_node (Some parent) kind 1) is.live may.there refl;
+      cookies = made_rising s.nodes parent (s.last + 1) name (new_node (Some parent) kind 1) is.cookies fresh_rising;
+      few =
+          let more = len_made s.nodes parent (s.last + 1) name (new_node (Some parent) kind 1) in
+          let room = below (table.len s.nodes) 65536 may.few in
+          omega arith;
     }
 
 -- ---- a name taken away
@@ -312,7 +351,9 @@ sound_remove s parent name dir is ok =
     (get_cut m parent n parent name ∙ rw (other_number may.node parent (turn apart), own_number parent, may.there) refl)
     (λ q ne ne'. get_cut m parent n q name ∙ rw (other_number may.node q (turn ne), other_number parent q (turn ne')) refl) in
     let live : Live (of_map (changed m parent (without_name name))) = live_changed m parent (without_name name) is.live (λ k z h. h) in
-    let sound : IsSoundTree (with_nodes s (settled after n)) = same_map s _ (thin (of_map after) _ s.last tree (thins_settled after n)) (live_settled after n (other_live (changed m parent (without_name name)) n orphan live)) in
+    let sound : IsSoundTree (with_nodes s (settled after n)) = same_map s _ (thin (of_map after) _ s.last tree (thins_settled after n)) (live_settled after n (other_live (changed m parent (without_name name)) n orphan live))
+    (each_settled Rising after n (each_changed Rising (changed m parent (without_name name)) n orphan (each_changed Rising m parent (without_name name) is.cookies (λ z h. rising_unnamed 3 z.cookie name z.entries h)) (λ z h. h)))
+    (few_settled after n (few_changed (changed m parent (without_name name)) n orphan (few_changed m parent (without_name name) is.few))) in
     subst (λ t. IsSoundTree (with_nodes s t)) (sym (removed_is m parent name may.holder n may.there may.found)) sound
 
 -- ---- the root alone
@@ -338,6 +379,10 @@ first_number : (n : ℕ) → n ≡ 1 → (1 ≤ n) × (n ≤ at_first.last)
 unfolding at_first
 first_number n e = (omega arith, omega arith)
 
+first_few : table.len at_first.nodes ≤ 65536
+unfolding at_first
+first_few = let one = len_inserted (table.empty {K = ℕ} {X = Node} {R = nat_cmp}) 1 the_root in let none = table.len-empty nat_cmp Node in omega arith
+
 sound_first : IsSoundTree at_first
 sound_first = record {
   tree = record {
@@ -351,6 +396,8 @@ sound_first = record {
     nameless = λ n x e top ne. let f = only_root n x e in ap (λ (z : Node). z.entries) (sym f.node);
   };
   live = λ n x e. let f = only_root n x e in subst (λ (z : Node). lives n z ≡ true) f.node (subst (λ k. lives k the_root ≡ true) (sym f.number) refl);
+  cookies = λ n x e. let f = only_root n x e in subst Rising f.node fresh_rising;
+  few = first_few;
 }
 
 pub stays_sound : StaysSound

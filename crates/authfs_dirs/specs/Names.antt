@@ -112,6 +112,14 @@ host_of (Dir host) = host
 host_of (ReadOnly file) = None
 host_of (Writable file) = None
 
+-- what a node is, where it lives
+abbrev pub kind_at : Names → ℕ → Option Kind
+kind_at s n = option_map (λ (x : Node). x.kind) (node_at s n)
+
+abbrev pub is_live_dir : Option Kind → Bool
+is_live_dir None = false
+is_live_dir (Some kind) = is_dir kind
+
 -- live; a directory
 unfoldable pub directory : NodeMap → ℕ → Result Node Errno
 directory m n = do

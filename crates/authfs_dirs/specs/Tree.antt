@@ -1,5 +1,6 @@
 -- The tree of names: what each change of the nodes and names keeps.
-use Rattle.std.specs.Prelude.{◌≡◌, ◌≢◌, ◌<◌, ◌≤◌, ℕ, Bool, true, false, List, [], Option, Some, None, IsOk, IsTrue, Ok}
+use Rattle.std.specs.Prelude.{◌≡◌, ◌≢◌, ◌<◌, ◌≤◌, ◌+◌, ℕ, Bool, true, false, List, [], ◌∷◌, Option, Some, None, IsOk, IsTrue, Ok}
+use Rattle.std.specs.FinMap as map
 use Rattle.authfs_dirs.specs.declared.kind.Kind.{Kind}
 use Rattle.authfs_dirs.specs.Names.{Entry, Node, Names, node_at, lives, is_dir, named, AreAlone, at_first, may_plant, planted, lookup_check, looked_up, with_room, may_add, added, may_remove, removed, forgotten, pinned, unpinned, IsReset}
 
@@ -47,9 +48,21 @@ IsTree s = AreTree (node_at s) s.last
 abbrev pub AllLive : Names → Type 0
 AllLive s = (n : ℕ) (x : Node) → node_at s n ≡ Some x → lives n x ≡ true
 
+-- the cookies rise from low on, so that each stands once, and the next one is above them all
+abbrev pub AreRising : ℕ → List Entry → ℕ → Type 0
+AreRising low [] next = low ≤ next
+AreRising low (e ∷ es) next = (low ≤ e.cookie) × AreRising (e.cookie + 1) es next
+
+-- in each directory the cookies rise from 3 on in the order of its names
+abbrev pub CookiesRise : Names → Type 0
+CookiesRise s = (n : ℕ) (x : Node) → node_at s n ≡ Some x → AreRising 3 x.entries x.cookie
+
+-- at most 65,536 nodes live
 pub record IsSoundTree (s : Names) : Type 0 where
   pub tree : IsTree s
   pub live : AllLive s
+  pub cookies : CookiesRise s
+  pub few : map.len s.nodes ≤ 65536
 
 -- the tree is sound at first, and each call keeps it so
 pub record StaysSound : Type 0 where

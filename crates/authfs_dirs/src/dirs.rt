@@ -1,8 +1,7 @@
 // The nodes and names of a session.
 ghost use Rattle.std.specs.Prelude.{◌≡◌, ◌<◌, ◌≤◌, ◌+◌, ◌^◌, ℕ, Bool, Some, None, Ok, Err, IsOk, IsTrue, IfOk, OnOk, OnErr, length};
-ghost use Rattle.std.specs.Option.{option_map};
 ghost use Rattle.std.specs.FinMap as table;
-ghost use Rattle.authfs_dirs.specs.Names.{Node, Names, node_at, may_plant, at_first, planted, lookup_check, looked_up, may_add, with_room, added, may_remove, removed, forgotten, pinned, unpinned, IsReset};
+ghost use Rattle.authfs_dirs.specs.Names.{Names, kind_at, is_live_dir, may_plant, at_first, planted, lookup_check, looked_up, may_add, with_room, added, may_remove, removed, forgotten, pinned, unpinned, IsReset};
 ghost use Rattle.authfs_dirs.specs.Dirents.{listing};
 
 use crate::inode::{Change, Inode};
@@ -127,7 +126,7 @@ impl Dirs {
 
     /// What a node is; None where it isn't live.
     pub fn kind(&self, node: u64) -> Option<Kind>
-        ensures { result ≡ option_map (λ (x : Node). x.kind) (node_at self.now node) }
+        ensures { result ≡ kind_at self.now node }
     {
         match self.nodes.get(&node) {
             Some(inode) => Some(inode.kind),
@@ -135,20 +134,20 @@ impl Dirs {
         }
     }
 
-    /// Counts one more lookup of the node that a name names. It takes no memory.
-    #[tactic(auto, unfolding(crate::specs::Names::looked_up))]
-    pub fn lookup(&mut self, parent: u64, name: &[u8]) -> Result<u64, Errno>
-        ensures value { result ≡ lookup_check self.old.nodes parent name.now }
-        ensures names { IfOk result (λ node. self.new ≡ looked_up self.old node) }
-        ensures kept { OnErr result (self.new ≡ self.old) }
+    /// The node that a name names.
+    pub fn find(&self, parent: u64, name: &[u8]) -> Result<u64, Errno>
+        ensures { result ≡ lookup_check self.now.nodes parent name.now }
     {
-        let node = match named(&self.nodes, parent, name) {
-            Ok(node) => node,
-            Err(errno) => return Err(errno),
-        };
+        named(&self.nodes, parent, name)
+    }
+
+    /// Counts one more lookup of a live node. It takes no memory.
+    #[tactic(auto, unfolding(crate::specs::Names::looked_up))]
+    pub fn count_lookup(&mut self, node: u64)
+        ensures { self.new ≡ looked_up self.old node }
+    {
         change(&mut self.nodes, node, Change::LookedUp);
         self.room = None;
-        Ok(node)
     }
 
     /// The host's number of the directory, where a name may be added.
@@ -251,7 +250,8 @@ impl Dirs {
     /// The entries of a live directory with a cookie above this one, as many as are whole in so many bytes.
     #[tactic(auto, unfolding(crate::specs::Dirents::listing))]
     pub fn list(&self, node: u64, cookie: u64, size: u32) -> Result<Listing, Memory>
-        requires { size ≤ 131072 }
+        requires dir { IsTrue (is_live_dir (kind_at self.now node)) }
+        requires size { size ≤ 131072 }
         ensures { IfOk result (λ l. l ≡ listing self.now.nodes node cookie size) }
     {
         let mut out = Vec::new(self.alloc);

@@ -2,8 +2,8 @@
 ghost use Rattle.authfs_dirs.specs.Tree.{StaysSound, FindsChildren};
 
 /// The nodes are a tree of directories below the root at first, and stay so whichever call changes them: each name is that
-/// of one live node, which has its name there alone, and no node is kept without a reason to live. Its contract is the law;
-/// it does nothing.
+/// of one live node, which has its name there alone; no node is kept without a reason to live; a directory's cookies rise in
+/// the order of its names, each used once; and at most 65,536 nodes live. Its contract is the law; it does nothing.
 pub fn tree_stays_sound()
     ensures { StaysSound }
 {}

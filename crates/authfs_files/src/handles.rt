@@ -1,6 +1,6 @@
 // The open handles of a session.
 ghost use Rattle.std.specs.Prelude.{◌≡◌, ◌≤◌, ◌<◌, ◌+◌, [], ◌∷◌, ◌++◌, None, OnOk, IsTrue, IsSome, MatchOption, length};
-ghost use Rattle.authfs_files.specs.Open.{Open, node_of, holds, may_open, closed};
+ghost use Rattle.authfs_files.specs.Open.{Open, AreRising, node_of, holds, may_open, closed};
 ghost use Rattle.authfs_files.specs.Pairs.{key_of, IsRising, StandsAt};
 
 use mg_base::Memory;
@@ -76,10 +76,12 @@ impl Handles {
         }
     }
 
-    /// Whether a further handle may be given.
+    /// Whether a further handle may be given. The numbers of those that are open rise from 1 on, and none is above the last one
+    /// that was given.
     #[tactic(auto, unfolding(crate::specs::Open::may_open))]
     pub fn may_open(&self) -> bool
-        ensures { result ≡ may_open self.now.open_handles self.now.given }
+        ensures value { result ≡ may_open self.now.open_handles self.now.given }
+        ensures rising { AreRising 1 self.now.open_handles self.now.given }
     {
         if self.pairs.len() >= MOST_HANDLES {
             return false;
@@ -110,6 +112,8 @@ impl Handles {
         ensures number { result ≡ self.old.given + 1 }
         ensures handles { self.new.open_handles ≡ self.old.open_handles ++ (result, node) ∷ [] }
         ensures given { self.new.given ≡ result }
+        ensures fresh { node_of result self.old.open_handles ≡ None }
+        ensures held { IsTrue (holds self.new.open_handles result node) }
     {
         let number = self.given + 1;
         let key = self.nodes.insert_reserved(node);
@@ -137,6 +141,7 @@ impl Handles {
         requires { IsSome (node_of handle self.old.open_handles) }
         ensures handles { self.new.open_handles ≡ closed handle self.old.open_handles }
         ensures given { self.new.given ≡ self.old.given }
+        ensures gone { node_of handle self.new.open_handles ≡ None }
     {
         let found = match place_of(self.pairs.as_slice(), handle) {
             Some(found) => found,

@@ -5,3 +5,4 @@ pub mod Plain
 pub mod Asking
 pub mod Staying
 pub mod Unserved
+pub mod Ties

@@ -116,13 +116,9 @@ unless s new E reply.statfs_out u f w = f u w
 unless s new E (reply.inited x) u f w = f u w
 unless s new E (reply.bytes_out bytes) u f w = f u w
 
-looked : (s : State) (r : Result ℕ Errno) → AreServed s.names s.files → AreServed (counted s r).names (counted s r).files
-looked s (Ok node) w = served_on s.names (looked_up s.names node) s.files (keeps_looked s.names node) w
-looked s (Err e) w = w
-
-looked_if : (s new : State) (b : Bool) (r : Result ℕ Errno) → new ≡ (if b then counted s r else s) → AreServed s.names s.files → AreServed new.names new.files
-looked_if s new true r e w = rw e (looked s r w)
-looked_if s new false r e w = rw e w
+looked : (s new : State) (r : Result ℕ Errno) → new ≡ counted s r → AreServed s.names s.files → AreServed new.names new.files
+looked s new (Ok node) e w = rw e (served_on s.names (looked_up s.names node) s.files (keeps_looked s.names node) w)
+looked s new (Err x) e w = rw e w
 
 names_if : (s new : State) (b : Bool) (t : State) → new ≡ (if b then t else s) → (AreServed s.names s.files → AreServed t.names t.files) → AreServed s.names s.files → AreServed new.names new.files
 names_if s new true t e f w = rw e (f w)
@@ -142,7 +138,7 @@ destroyed_stays s new d w = rw d.files (served_on s.names new.names s.files (kee
 
 becomes_stays : (s : State) (node : ℕ) (asked : Asked) (a : Answer) (new : State) → Becomes s node asked a new → AreServed s.names s.files → AreServed new.names new.files
 becomes_stays s node (init i j k l) a new u w = unless s new _ a u (init_stays s new i) w
-becomes_stays s node (lookup name) a new u w = looked_if s new s.ready (lookup_check s.names.nodes node name) u w
+becomes_stays s node (lookup name) a new u w = unless s new _ a u (looked s new (lookup_check s.names.nodes node name)) w
 becomes_stays s node (forget n) a new u w = unless s new _ a u (λ e. names_if s new s.ready _ e (served_on s.names (forgotten s.names node n) s.files (keeps_forgotten s.names node n))) w
 becomes_stays s node (batch_forget pairs) a new u w = unless s new _ a u (λ e. names_if s new s.ready _ e (forgotten_all s.names pairs s.files)) w
 becomes_stays s node interrupt a new u w = unless s new _ a u (stays s new) w

@@ -43,6 +43,7 @@ pub record IsDestroyed (s new : State) : Type 0 where
 -- what an answer that is no refusal makes of the state
 abbrev pub Effect : State → ℕ → Asked → State → Type 0
 Effect s node (init major minor readahead flags) new = new ≡ initialised s major
+Effect s node (lookup name) new = new ≡ counted s (lookup_check s.names.nodes node name)
 Effect s node (forget n) new = new ≡ (if s.ready then with_names s (forgotten s.names node n) else s)
 Effect s node (batch_forget pairs) new = new ≡ (if s.ready then with_names s (all_forgotten s.names pairs) else s)
 Effect s node (opening flags) new = new ≡ with_handle s node
@@ -50,14 +51,13 @@ Effect s node (release fh) new = new ≡ without_handle s node fh
 Effect s node destroy new = IsDestroyed s new
 Effect s node other new = new ≡ s
 
--- a refusal changes nothing
+-- the state, or where it is refused the old one
 abbrev pub UnlessRefused : State → State → Type 0 → Answer → Type 0
 UnlessRefused old new E (reply.refused e) = new ≡ old
 UnlessRefused old new E other = E
 
--- A lookup is counted where the name names a node; a READ changes nothing.
+-- a refusal changes nothing, nor does a READ
 abbrev pub Becomes : State → ℕ → Asked → Answer → State → Type 0
-Becomes s node (lookup name) answer new = new ≡ (if s.ready then counted s (lookup_check s.names.nodes node name) else s)
 Becomes s node (read fh offset size) answer new = new ≡ s
 Becomes s node other answer new = UnlessRefused s new (Effect s node other new) answer
 

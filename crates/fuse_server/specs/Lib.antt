@@ -6,3 +6,4 @@ pub mod Parts
 pub mod Deeds
 pub mod Answers
 pub mod Serving
+pub mod Ties

@@ -20,8 +20,8 @@ Files = List (ℕ × MeasuredFile)
 abbrev pub file_at : Files → ℕ → Option MeasuredFile
 file_at files number = lookup (is_at (nat_cmp number)) files
 
--- Is it initialised; names and nodes; the open handles with their nodes, rising by number, and the largest number that was
--- given; the read-only files.
+-- Is it initialised; names and nodes; the open handles with their nodes, and the largest number that was given; the read-only
+-- files.
 pub record State : Type 0 where
   pub ready : Bool
   pub names : Names

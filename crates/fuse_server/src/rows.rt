@@ -1,10 +1,9 @@
 // Each operation: its checks in order, and what it makes of the state.
 ghost use Rattle.std.specs.Prelude.{◌≡◌, ◌≤◌, Ok};
-ghost use Rattle.authfs_dirs.specs.Names.{lookup_check};
-ghost use Rattle.fuse_codec.specs.Message.{forget, opening, release};
+ghost use Rattle.fuse_codec.specs.Message.{lookup, forget, opening, release};
 ghost use Rattle.fuse_server.specs.Aims.{init_aim, lookup_aim, getattr_aim, setattr_aim, open_aim, read_aim, write_aim, handled_aim, add_aim, remove_aim, statfs_aim};
 ghost use Rattle.fuse_server.specs.Deeds.{IsDeed, NoRead, ReadsFew, answer_to};
-ghost use Rattle.fuse_server.specs.Effects.{Becomes, UnlessRefused, IsDestroyed, initialised, counted};
+ghost use Rattle.fuse_server.specs.Effects.{Becomes, UnlessRefused, IsDestroyed, initialised};
 ghost use Rattle.fuse_server.specs.Parts.{state_of};
 
 use crate::checks::{attr_of, held, live, live_file};
@@ -70,15 +69,15 @@ pub(crate) fn init(
     }))
 }
 
-/// LOOKUP: one lookup more of the node that the name names.
-#[tactic(auto, using(crate::proofs::Nodes::kind_looked), unfolding(crate::specs::Aims::lookup_aim))]
+/// LOOKUP: one lookup more of the node that the name names, where it is answered.
+#[tactic(auto, unfolding(crate::specs::Aims::lookup_aim))]
 pub(crate) fn lookup(parts: &mut Parts, parent: u64, name: &[u8]) -> Result<Deed, Errno>
     ensures row { IsDeed (lookup_aim (state_of parts.old) parent name.now) result }
     ensures no_read { NoRead result }
-    ensures next { state_of parts.new ≡ counted (state_of parts.old)
-        (lookup_check parts.old.dirs.nodes parent name.now) }
+    ensures next { Becomes (state_of parts.old) parent (lookup name.now)
+        (answer_to result) (state_of parts.new) }
 {
-    let node = match parts.dirs.lookup(parent, name) {
+    let node = match parts.dirs.find(parent, name) {
         Ok(node) => node,
         Err(errno) => return Err(errno),
     };
@@ -86,10 +85,12 @@ pub(crate) fn lookup(parts: &mut Parts, parent: u64, name: &[u8]) -> Result<Deed
         Ok(kind) => kind,
         Err(errno) => return Err(errno),
     };
-    match attr_of(&parts.files, node, kind) {
-        Ok(attr) => Ok(Deed::Entry(EntryOut { node, attr })),
-        Err(errno) => Err(errno),
-    }
+    let attr = match attr_of(&parts.files, node, kind) {
+        Ok(attr) => attr,
+        Err(errno) => return Err(errno),
+    };
+    parts.dirs.count_lookup(node);
+    Ok(Deed::Entry(EntryOut { node, attr }))
 }
 
 /// GETATTR.
