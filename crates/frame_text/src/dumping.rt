@@ -121,7 +121,8 @@ pub fn text_of_frames(alloc: Global, bytes: &[u8]) -> Result<Vec<u8>, FrameFault
     // The first bad frame, and what is wrong with it.
     ensures fault { IfErr result (λ e. BreaksFrames bytes.now e) }
     // Each stream of reads has its text.
-    ensures only { (payloads : List (List ℕ)) → AreReads payloads → bytes.now ≡ frames_of payloads
+    ensures only { (payloads : List (List ℕ)) → AreReads payloads
+        → bytes.now ≡ frames_of payloads
         → MatchResult result (λ text. text.items ≡ spelled payloads) (λ e. e ≡ Memory) }
 {
     dump(alloc, bytes)

@@ -10,7 +10,8 @@ use std::alloc::Global;
 
 /// All bytes that a source has left.
 pub(crate) fn read_all<S: Source>(alloc: Global, source: &mut S) -> Result<Vec<u8>, Status>
-    ensures all { IfOk result (λ bytes. IsAll (S.left source.old) (S.left source.new) bytes.items) }
+    ensures all { IfOk result
+        (λ bytes. IsAll (S.left source.old) (S.left source.new) bytes.items) }
     ensures cause { IfErr result (λ e. (e ≡ Memory) ⊎ ((e ≡ Read)
         × Rose (S.faults source.old) (S.faults source.new))) }
 {

@@ -83,7 +83,8 @@ pub fn frames_of_text(alloc: Global, text: &[u8]) -> Result<Vec<u8>, PlanFault>
     // The first bad line, and the first thing wrong with it.
     ensures fault { IfErr result (λ e. BreaksText text.now e) }
     // Each text of reads has its frames.
-    ensures only { (payloads : List (List ℕ)) → AreReads payloads → text.now ≡ spelled payloads
+    ensures only { (payloads : List (List ℕ)) → AreReads payloads
+        → text.now ≡ spelled payloads
         → MatchResult result (λ out. out.items ≡ frames_of payloads) (λ e. e ≡ Memory) }
 {
     make(alloc, text)
