@@ -1,5 +1,5 @@
 #!/bin/sh
-# The example of README.md. It runs the `guest` and `mkguest` of the PATH, and leaves its files in the working directory.
+# The example of README.md. It runs the `guest`, `mkguest` and `mkframes` of the PATH, and leaves its files in the working directory.
 set -eu
 # ----
 awk 'BEGIN { for (i = 0; i < 768; i++) printf "%015d\n", i }' >app.apk      # three blocks of 4096 bytes
@@ -10,8 +10,7 @@ mkguest composite parts disk
 printf 'store 1\ncomposite 0 disk\n' >store; : >entropy                     # what the host has
 read -r _ blocks salt root <measure
 printf 'plan 1\napk 0 app idsig fixed %s %s %s\n' "$blocks" "$salt" "$root" >plan
-# One request: item 0, offset 4090, 12 bytes.
-printf '\020\000\000\000\001\000\000\000\000\000\000\000\372\017\000\000\000\000\000\000\014\000\000\000' >frames
+echo 'read 0 4090 12' | mkframes >frames                                    # one request: item 0, offset 4090, 12 bytes
 guest serve plan store entropy tape <frames | od -An -v -tx1
 guest replay plan tape entropy <frames | od -An -v -tx1                     # again, from the recorded host
 printf 1 | dd of=app.apk bs=1 seek=4096 conv=notrunc 2>/dev/null            # the host changes one bit

@@ -1,0 +1,6 @@
+pub mod Numbers
+pub mod Payloads
+pub mod Lines
+pub mod Texts
+pub mod Streams
+pub mod Programs
