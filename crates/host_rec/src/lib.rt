@@ -4,8 +4,6 @@
 
 mod kept;
 pub mod recorder;
-#[cfg(test)]
-mod tests;
 mod text;
 
 pub use crate::recorder::Recorder;

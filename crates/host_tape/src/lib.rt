@@ -14,6 +14,3 @@ pub use crate::reading::read_tape;
 pub use crate::tape::Tape;
 pub use crate::writing::write_tape;
 pub use host_traits::TapeItem;
-
-#[cfg(test)]
-mod tests;
