@@ -3,3 +3,4 @@ pub mod Doing
 pub mod Exact
 pub mod Places
 pub mod Holding
+pub mod Prefixes

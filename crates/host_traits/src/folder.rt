@@ -15,6 +15,9 @@ pub enum FolderError {
     Memory,
 }
 
+/// What a call of a folder gives.
+pub type FolderResult<T> = Result<T, FolderError>;
+
 /// A call of a folder, by the name of its file.
 #[derive(Drop)]
 pub enum FolderCall {
@@ -39,7 +42,7 @@ pub trait Folder {
     /// The first `max + 1` bytes of a file, or all where it has fewer: so a file of more than `max`
     /// bytes shows by the length of what is given. It fails for a name that isn't there, and
     /// changes no file.
-    fn load(&mut self, alloc: Global, name: &str, max: u64) -> Result<Vec<u8>, FolderError>
+    fn load(&mut self, alloc: Global, name: &str, max: u64) -> FolderResult<Vec<u8>>
         requires { max < 2 ^ 63 }
         ensures files { files self.new ≡ files self.old }
         ensures loaded { Loaded (files self.old) name.now max result }
@@ -50,13 +53,7 @@ pub trait Folder {
     /// there, none that it has no byte at `at`. It fails for a name that isn't there, and changes
     /// no file. This body loads the whole front of the file: a folder that can read from any place
     /// has one of its own.
-    fn load_part(
-        &mut self,
-        alloc: Global,
-        name: &str,
-        at: u64,
-        max: u64,
-    ) -> Result<Vec<u8>, FolderError>
+    fn load_part(&mut self, alloc: Global, name: &str, at: u64, max: u64) -> FolderResult<Vec<u8>>
         requires { at + max < 2 ^ 63 }
         ensures files { files self.new ≡ files self.old }
         ensures loaded { PartLoaded (files self.old) name.now at max result }
@@ -79,7 +76,7 @@ pub trait Folder {
     /// Makes a file of these bytes, or puts them in the place of those of the file of that name.
     /// After an error the file is as before, absent where it was absent, or holds the new bytes. No
     /// other file changes.
-    fn store(&mut self, alloc: Global, name: &str, bytes: &[u8]) -> Result<(), FolderError>
+    fn store(&mut self, alloc: Global, name: &str, bytes: &[u8]) -> FolderResult<()>
         ensures stored { Stored (files self.old) (files self.new) name.now bytes.now result }
         ensures cause { HasErrand (store_of name.now) (faults self.old) (faults self.new)
             (last_failed self.old) (last_failed self.new) result };

@@ -12,8 +12,8 @@ pub mod streams;
 
 pub use crate::answers::{Answer, Raw};
 pub use crate::calls::{Call, Said, TapeItem};
-pub use crate::folder::{Folder, FolderCall, FolderError};
-pub use crate::host::{Host, HostError};
+pub use crate::folder::{Folder, FolderCall, FolderError, FolderResult};
+pub use crate::host::{Host, HostError, HostResult};
 pub use crate::mem_folder::MemFolder;
 pub use crate::memory::{MemSink, MemSource};
 pub use crate::streams::{Failed, Sink, Source};

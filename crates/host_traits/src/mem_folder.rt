@@ -5,7 +5,7 @@ ghost use Rattle.std.specs.declared.option.Option.{Option};
 ghost use Rattle.host_traits.specs.Folders.{Errand, load_of, store_of, errand_of, Files, AreFiles, Loaded, PartLoaded, Stored, HasErrand, with_named, is_name};
 ghost use Rattle.host_traits.specs.Mem.{Counts, FolderData, Named, Loads, Stores, is_lacking, is_listed, listing, called, failed, found_in, place_in, unused};
 
-use crate::folder::{Folder, FolderCall, FolderError};
+use crate::folder::{Folder, FolderCall, FolderError, FolderResult};
 use crate::memory::Calls;
 use mg_base::Memory;
 use std::alloc::Global;
@@ -177,7 +177,7 @@ impl MemFolder {
     }
 
     // Counts a load, and gives the place of its file.
-    fn find(&mut self, alloc: Global, name: &str) -> Result<usize, FolderError>
+    fn find(&mut self, alloc: Global, name: &str) -> FolderResult<usize>
         ensures place { IfOk result (λ at.
             (at ≡ place_in self.old.files name.now) × (at < length self.old.files)) }
         ensures counted { Loads self.old name.now result self.new }
@@ -200,13 +200,7 @@ impl MemFolder {
     }
 
     // Loads a file's bytes from a place on, cut behind so many.
-    fn read(
-        &mut self,
-        alloc: Global,
-        name: &str,
-        at: u64,
-        most: u64,
-    ) -> Result<Vec<u8>, FolderError>
+    fn read(&mut self, alloc: Global, name: &str, at: u64, most: u64) -> FolderResult<Vec<u8>>
         requires { at + most < 2 ^ 64 }
         ensures loaded { PartLoaded (Some (found_in self.old.files)) name.now at most result }
         ensures counted { Loads self.old name.now result self.new }
@@ -232,7 +226,7 @@ impl Folder for MemFolder {
 
     ghost last_failed = { λ f. f.last };
 
-    fn load(&mut self, alloc: Global, name: &str, max: u64) -> Result<Vec<u8>, FolderError>
+    fn load(&mut self, alloc: Global, name: &str, max: u64) -> FolderResult<Vec<u8>>
         requires { max < 2 ^ 63 }
         ensures files { Some (found_in self.new.files) ≡ Some (found_in self.old.files) }
         ensures loaded { Loaded (Some (found_in self.old.files)) name.now max result }
@@ -247,13 +241,7 @@ impl Folder for MemFolder {
         }
     }
 
-    fn load_part(
-        &mut self,
-        alloc: Global,
-        name: &str,
-        at: u64,
-        max: u64,
-    ) -> Result<Vec<u8>, FolderError>
+    fn load_part(&mut self, alloc: Global, name: &str, at: u64, max: u64) -> FolderResult<Vec<u8>>
         requires { at + max < 2 ^ 63 }
         ensures files { Some (found_in self.new.files) ≡ Some (found_in self.old.files) }
         ensures loaded { PartLoaded (Some (found_in self.old.files)) name.now at max result }
@@ -269,7 +257,7 @@ impl Folder for MemFolder {
         }
     }
 
-    fn store(&mut self, alloc: Global, name: &str, bytes: &[u8]) -> Result<(), FolderError>
+    fn store(&mut self, alloc: Global, name: &str, bytes: &[u8]) -> FolderResult<()>
         ensures stored { Stored (Some (found_in self.old.files)) (Some (found_in self.new.files))
             name.now bytes.now result }
         ensures cause { HasErrand (store_of name.now) self.old.counts.faults self.new.counts.faults

@@ -6,5 +6,4 @@ pub mod Fielded
 pub mod Printed
 pub mod Whole
 pub mod Public
-pub mod Prefixes
 pub mod Lists

@@ -1,7 +1,7 @@
 use Rattle.std.proofs.Common.{List, ℕ, ◌++◌}
 use Rattle.std.specs.Prelude.{codes}
 use Rattle.text_lines.specs.Ends.{line_feed}
-use Rattle.text_lines.proofs.Prefixes.{appends_then, appends_then_ok, prefix_first, prefix_second, prefix_second_err}
+use Rattle.host_traits.proofs.Prefixes.{appends_then, appends_then_ok, prefix_first, prefix_second, prefix_second_err}
 use Rattle.text_lines.proofs.ends.write_file_end.Goals as goal
 
 abbrev front : List ℕ
