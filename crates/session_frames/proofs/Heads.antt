@@ -1,8 +1,7 @@
 -- The eight bytes before a payload, and what they say of the bytes that are held.
-use Rattle.std.proofs.Common.{◌≡◌, ℕ, zero, suc, ◌+◌, ◌-◌, ◌*◌, ◌^◌, ◌<◌, ◌≤◌, ◌%◌, ◌/◌, min, List, [], ◌∷◌, ◌++◌, length, get_or, take, drop, refl, sym, ap, subst, lit<, ◌∙◌, append_assoc, append-nil, arith, inl, inr}
-use Rattle.std.proofs.lemmas.Grind.{common_steps}
+use Rattle.std.proofs.Common.{◌≡◌, ℕ, zero, suc, ◌+◌, ◌-◌, ◌^◌, ◌<◌, ◌≤◌, ◌%◌, ◌/◌, min, List, [], ◌∷◌, ◌++◌, length, get_or, take, drop, refl, sym, ap, lit<, ◌∙◌, append_assoc, append-nil, arith, inl, inr}
 use Rattle.std.proofs.lemmas.Bool.{cases_lt}
-use Rattle.std.proofs.lemmas.List.{take_all, take_at, drop_at, drop_all, length-append, length-take, length-drop, length-replicate, take-append-drop, get_or-drop}
+use Rattle.std.proofs.lemmas.List.{take_all, drop_at, drop_all, length-append, length-take, length-drop, length-replicate, take-append-drop, get_or-drop}
 use Rattle.std.proofs.lemmas.Nat.{le_bytes_4, from_le_bytes-to_le_bytes_4}
 use lib.ListN.{replicate}
 use Rattle.std.specs.Int.{w32, to_le_bytes, from_le_bytes}

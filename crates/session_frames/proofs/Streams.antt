@@ -1,13 +1,11 @@
 -- A stream is cut into frames in one way.
-use Rattle.std.proofs.Common.{◌≡◌, ◌≢◌, ℕ, zero, suc, ◌+◌, ◌-◌, ◌<◌, ◌≤◌, List, [], ◌∷◌, ◌++◌, length, take, drop, refl, sym, ap, subst, lit<, ◌∙◌, append_assoc, append-nil, arith, Option, Some, None}
-use Rattle.std.proofs.lemmas.List.{take_at, length-append, length-replicate}
+use Rattle.std.proofs.Common.{◌≡◌, ◌≢◌, ℕ, ◌+◌, ◌<◌, List, [], ◌∷◌, ◌++◌, length, take, drop, refl, sym, ap, subst, lit<, ◌∙◌, append_assoc, append-nil, arith}
+use Rattle.std.proofs.lemmas.List.{take_at, length-append}
 use lib.ListN.{replicate}
-use Rattle.std.specs.Prelude.{slice_index, flat_map}
-use Rattle.std.specs.Int.{w32, from_le_bytes}
-use Rattle.session_frames.specs.Frames.{IsPayload, Fronts, IsCutOff, BeginsNone, Framed, Splits, AreFrames, Held, frame, bytes_of}
-use Rattle.session_frames.specs.Head.{complete}
+use Rattle.std.specs.Prelude.{slice_index}
+use Rattle.session_frames.specs.Frames.{Fronts, IsCutOff, BeginsNone, Framed, Splits, AreFrames, frame, bytes_of}
 use Rattle.session_frames.specs.Session.{NoFrameIn, OneWay}
-use Rattle.session_frames.proofs.Heads.{held_at, length_in_head, rest_after}
+use Rattle.session_frames.proofs.Heads.{length_in_head, rest_after}
 
 abbrev pub framed : ℕ → List ℕ → Framed
 framed c p = record { channel = c; payload = p }
