@@ -6,3 +6,4 @@ pub mod Asking
 pub mod Staying
 pub mod Unserved
 pub mod Ties
+pub mod Keeping

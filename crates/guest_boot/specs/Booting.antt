@@ -131,6 +131,7 @@ pub record FileBoots (s : Booted) (file : ℕ) (digest : Digest) (own : Exchange
   pub own_is : own ≡ (DescriptorOf file, Bytes bytes) ∷ []
   pub opened : MeasuredFile
   pub is : file_opening.opened file digest bytes ≡ Ok opened
+  pub describes : file_opening.Describes file digest bytes opened
   pub new_is : new ≡ with_file s opened
 
 -- from what was opened before, these exchanges and this line make this

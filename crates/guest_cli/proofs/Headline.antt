@@ -6,15 +6,15 @@ use Rattle.host_traits.specs.Folders.{Files}
 use Rattle.host_traits.specs.Told.{Told, Talked, Made, heard_of, failures_of}
 use Rattle.host_traits.proofs.Talking.{talked_on}
 use Rattle.host_tape.specs.Played.{Played, unplayed, tape_told}
-use Rattle.verity_path.specs.declared.device.Device.{Device}
 use Rattle.guest_plan.specs.declared.plan.PlanLine.{PlanLine}
 use Rattle.guest_plan.specs.Plans.{Known}
 use Rattle.guest_boot.specs.declared.faults.BootCause.{BootCause}
 use Rattle.guest_boot.specs.declared.faults.BootCause.TheVariants as cause
 use Rattle.guest_boot.specs.declared.faults.BootFault.{BootFault as Fault}
 use Rattle.guest_boot.specs.Booting.{IsForLines, most_of, IsFault}
-use Rattle.guest_rules.specs.Machine.{State, Turn, moment}
-use Rattle.guest_rules.specs.Run.{Runs, calls_of}
+use Rattle.ro_file.specs.Files.{MeasuredFile}
+use Rattle.guest_rules.specs.Machine.{Setting, State, Turn, moment}
+use Rattle.guest_rules.specs.Run.{AreOpened, Runs, calls_of}
 use Rattle.guest_rules.proofs.Standing.{runs_stand}
 use Rattle.guest_cli.specs.declared.boot.Machine.{Machine}
 use Rattle.guest_cli.specs.declared.session.SessionEnd.{SessionEnd}
@@ -24,20 +24,20 @@ use Rattle.guest_cli.specs.declared.status.Form.TheVariants.{Command, Plan, Fram
 use Rattle.guest_cli.specs.declared.status.Status.TheVariants.{BootFault, Done, Usage, PlanFault, FileFault, TapeFault, StoreFault, ReadFault, WriteFault, BadFrame as BadFrameStatus, TooMuch, Memory, Unbuilt}
 use Rattle.guest_cli.specs.Session.{Streams, IsSession}
 use Rattle.guest_cli.specs.Outside.{Quiet, status_of}
-use Rattle.guest_cli.specs.Booted.{BootedOutcome, BootsOver, Unbooted, boot_status, boot_status_by}
+use Rattle.guest_cli.specs.Booted.{Makes, NoneOrAll, BootedOutcome, BootsOver, Unbooted, setting_of, boot_status, boot_status_by}
 use Rattle.guest_cli.specs.Replay.{Replayed, AllRead, Sat, Replays}
 use Rattle.guest_cli.specs.Loads.{IsReady, InputsFail, PlayOutcome}
 
-pub replayed : (items : List Device) (entropy : List ℕ) (records : List TapeItem) (booted : List Made) (t : State) (mid finish : Told) (turns : List Turn) → Talked (tape_told (unplayed records)) mid booted
-    → Runs items (record { entropy = entropy }) t mid finish turns → Replayed items entropy records booted mid finish turns
-replayed items entropy records booted t mid finish turns boot runs =
-    let plain = runs.run (heard_of booted) boot.heard in
+pub replayed : (g : Setting) (first : State) (records : List TapeItem) (booted : List Made) (t : State) (mid finish : Told) (turns : List Turn) → Talked (tape_told (unplayed records)) mid booted
+    → AreOpened first (heard_of booted) → Runs g first t mid finish turns → Replayed g first records booted mid finish turns
+replayed g first records booted t mid finish turns boot opened runs =
+    let plain = runs.run (heard_of booted) in
     record {
       talked = runs.talked;
       plays = (talked_on (tape_told (unplayed records)) mid finish booted (calls_of turns) boot runs.talked).plays;
       state = t;
       plain = plain;
-      run = λ world w. runs_stand items world (moment (record { entropy = entropy }) mid (heard_of booted)) turns (moment t finish (heard_of booted ++ heard_of (calls_of turns))) w plain;
+      run = λ world w. runs_stand g world (moment first mid (heard_of booted)) turns (moment t finish (heard_of booted ++ heard_of (calls_of turns))) opened w plain;
     }
 
 -- the same with less known of what ran
@@ -60,42 +60,42 @@ session_so P Q so told old new (Err Write) d =
     }
 
 -- the session over a tape, behind a boot over it
-pub tape_session : (items : List Device) (st : State) (entropy : List ℕ) (tape : Played) (booted : List Made) (t : State) (mid finish : Told) (old new : Streams) (r : Result (Unit {0}) SessionEnd) → st ≡ record { entropy = entropy } → tape ≡ unplayed tape.records
-    → Talked (tape_told tape) mid booted
-    → IsSession (Runs items st t mid finish) finish old new r
-    → IsSession (Replayed items entropy tape.records booted mid finish) finish old new r
-tape_session items st entropy tape booted t mid finish old new r state fresh boot d =
-    session_so _ _ (λ turns runs. replayed items entropy tape.records booted t mid finish turns (subst (λ (p : Played). Talked (tape_told p) mid booted) fresh boot)
-    (subst (λ (s : State). Runs items s t mid finish turns) state runs)) finish old new r d
+pub tape_session : (g : Setting) (st first : State) (tape : Played) (booted : List Made) (t : State) (mid finish : Told) (old new : Streams) (r : Result (Unit {0}) SessionEnd) → st ≡ first → tape ≡ unplayed tape.records
+    → Talked (tape_told tape) mid booted → AreOpened first (heard_of booted)
+    → IsSession (Runs g st t mid finish) finish old new r
+    → IsSession (Replayed g first tape.records booted mid finish) finish old new r
+tape_session g st first tape booted t mid finish old new r state fresh boot opened d =
+    session_so _ _ (λ turns runs. replayed g first tape.records booted t mid finish turns (subst (λ (p : Played). Talked (tape_told p) mid booted) fresh boot) opened
+    (subst (λ (s : State). Runs g s t mid finish turns) state runs)) finish old new r d
 
 -- ---- boot
 
-pub booted_over : (lines : List PlanLine) (numbers : List ℕ) (start mid : Told) (m : Machine) → (d : Did (IsForLines lines) (most_of lines) start mid (BootedOutcome lines numbers (Ok m))) → BootsOver lines start mid d.own m.engine.items
-booted_over lines numbers start mid m d = record { talked = d.talked; calls = d.calls; few = d.few; answered = d.outcome.0; files = m.engine.files; opens = d.outcome.1 }
+pub booted_over : (lines : List PlanLine) (numbers entropy : List ℕ) (start mid : Told) (m : Machine) → (d : Did (IsForLines lines) (most_of lines) start mid (BootedOutcome lines numbers entropy (Ok m))) → BootsOver lines start mid d.own m.engine.setting.items d.outcome.1.files
+booted_over lines numbers entropy start mid m d = record { talked = d.talked; calls = d.calls; few = d.few; answered = d.outcome.0; opens = d.outcome.1.opens }
 
-unbooted_with : (lines : List PlanLine) (numbers : List ℕ) (start finish : Told) (fault : Fault) (why : BootCause) → fault.why ≡ why → (why ≡ cause.Memory → ⊥) → (d : Did (IsForLines lines) (most_of lines) start finish (BootedOutcome lines numbers (Err fault)))
-    → ((fault.why ≡ cause.Memory) × (failures_of d.own ≡ 0) × (heard_of d.own ≡ [])) ⊎ IsFault lines numbers fault (trace_of (heard_of d.own) (failures_of d.own) start finish) → Unbooted lines numbers start fault
-unbooted_with lines numbers start finish fault why is other d (inl e) = absurd (other (sym is ∙ e.0))
-unbooted_with lines numbers start finish fault why is other d (inr f) =
+unbooted_with : (lines : List PlanLine) (numbers entropy : List ℕ) (start finish : Told) (fault : Fault) (why : BootCause) → fault.why ≡ why → (why ≡ cause.Memory → ⊥) → (d : Did (IsForLines lines) (most_of lines) start finish (BootedOutcome lines numbers entropy (Err fault)))
+    → ((fault.why ≡ cause.Memory) × (failures_of d.own ≡ 0) × NoneOrAll lines (heard_of d.own)) ⊎ IsFault lines numbers fault (trace_of (heard_of d.own) (failures_of d.own) start finish) → Unbooted lines numbers start fault
+unbooted_with lines numbers entropy start finish fault why is other d (inl e) = absurd (other (sym is ∙ e.0))
+unbooted_with lines numbers entropy start finish fault why is other d (inr f) =
     record { finish = finish; own = d.own; talked = d.talked; calls = d.calls; few = d.few; stops = d.stops; is = f; other = λ e. other (sym is ∙ e) }
 
-unbooted : (lines : List PlanLine) (numbers : List ℕ) (start finish : Told) (fault : Fault) (why : BootCause) → fault.why ≡ why → (why ≡ cause.Memory → ⊥) → Did (IsForLines lines) (most_of lines) start finish (BootedOutcome lines numbers (Err fault)) → Unbooted lines numbers start fault
-unbooted lines numbers start finish fault why is other d = unbooted_with lines numbers start finish fault why is other d d.outcome
+unbooted : (lines : List PlanLine) (numbers entropy : List ℕ) (start finish : Told) (fault : Fault) (why : BootCause) → fault.why ≡ why → (why ≡ cause.Memory → ⊥) → Did (IsForLines lines) (most_of lines) start finish (BootedOutcome lines numbers entropy (Err fault)) → Unbooted lines numbers start fault
+unbooted lines numbers entropy start finish fault why is other d = unbooted_with lines numbers entropy start finish fault why is other d d.outcome
 
-unbooted_by : (lines : List PlanLine) (numbers : List ℕ) (start finish : Told) (fault : Fault) (why : BootCause) → fault.why ≡ why → Did (IsForLines lines) (most_of lines) start finish (BootedOutcome lines numbers (Err fault))
+unbooted_by : (lines : List PlanLine) (numbers entropy : List ℕ) (start finish : Told) (fault : Fault) (why : BootCause) → fault.why ≡ why → Did (IsForLines lines) (most_of lines) start finish (BootedOutcome lines numbers entropy (Err fault))
     → (boot_status_by fault why ≡ Memory) ⊎ ((boot_status_by fault why ≡ BootFault fault) × Unbooted lines numbers start fault)
-unbooted_by lines numbers start finish fault cause.Memory is d = inl refl
-unbooted_by lines numbers start finish fault (cause.Gpt f) is d = inr (refl, unbooted lines numbers start finish fault (cause.Gpt f) is (λ e. cc) d)
-unbooted_by lines numbers start finish fault (cause.NoPart n) is d = inr (refl, unbooted lines numbers start finish fault (cause.NoPart n) is (λ e. cc) d)
-unbooted_by lines numbers start finish fault (cause.Apk f) is d = inr (refl, unbooted lines numbers start finish fault (cause.Apk f) is (λ e. cc) d)
-unbooted_by lines numbers start finish fault (cause.File f) is d = inr (refl, unbooted lines numbers start finish fault (cause.File f) is (λ e. cc) d)
-unbooted_by lines numbers start finish fault (cause.Failed n) is d = inr (refl, unbooted lines numbers start finish fault (cause.Failed n) is (λ e. cc) d)
-unbooted_by lines numbers start finish fault (cause.Short a g) is d = inr (refl, unbooted lines numbers start finish fault (cause.Short a g) is (λ e. cc) d)
+unbooted_by lines numbers entropy start finish fault cause.Memory is d = inl refl
+unbooted_by lines numbers entropy start finish fault (cause.Gpt f) is d = inr (refl, unbooted lines numbers entropy start finish fault (cause.Gpt f) is (λ e. cc) d)
+unbooted_by lines numbers entropy start finish fault (cause.NoPart n) is d = inr (refl, unbooted lines numbers entropy start finish fault (cause.NoPart n) is (λ e. cc) d)
+unbooted_by lines numbers entropy start finish fault (cause.Apk f) is d = inr (refl, unbooted lines numbers entropy start finish fault (cause.Apk f) is (λ e. cc) d)
+unbooted_by lines numbers entropy start finish fault (cause.File f) is d = inr (refl, unbooted lines numbers entropy start finish fault (cause.File f) is (λ e. cc) d)
+unbooted_by lines numbers entropy start finish fault (cause.Failed n) is d = inr (refl, unbooted lines numbers entropy start finish fault (cause.Failed n) is (λ e. cc) d)
+unbooted_by lines numbers entropy start finish fault (cause.Short a g) is d = inr (refl, unbooted lines numbers entropy start finish fault (cause.Short a g) is (λ e. cc) d)
 
 -- a boot that failed is want of memory, or a fault of its line
-pub boot_fails : (lines : List PlanLine) (numbers : List ℕ) (start finish : Told) (fault : Fault) → Did (IsForLines lines) (most_of lines) start finish (BootedOutcome lines numbers (Err fault))
+pub boot_fails : (lines : List PlanLine) (numbers entropy : List ℕ) (start finish : Told) (fault : Fault) → Did (IsForLines lines) (most_of lines) start finish (BootedOutcome lines numbers entropy (Err fault))
     → (boot_status fault ≡ Memory) ⊎ ((boot_status fault ≡ BootFault fault) × Unbooted lines numbers start fault)
-boot_fails lines numbers start finish fault d = unbooted_by lines numbers start finish fault fault.why refl d
+boot_fails lines numbers entropy start finish fault d = unbooted_by lines numbers entropy start finish fault fault.why refl d
 
 -- the same of a replay
 pub unplayed_by : (plan : Known) (tape : Played) (entropy : List ℕ) (fault : Fault) (old new : Streams) (status : Status) → status ≡ boot_status fault → Quiet old new
@@ -150,9 +150,10 @@ module _ (files : Option Files) (plan tape entropy : List ℕ) (k : Known) (play
       subst (λ (s : Status). Replays files plan tape entropy old new s) (sym p.status_is) (ends_as files plan tape entropy old new p.ended (record {
         read = all_read ready;
         items = p.items;
+        opened = p.opened;
         booted = p.booted;
         mid = p.mid;
-        boots = subst (λ (t : Played). BootsOver k.lines (tape_told t) p.mid p.booted p.items) ready.fresh p.boots;
+        boots = subst (λ (t : Played). BootsOver k.lines (tape_told t) p.mid p.booted p.items p.opened) ready.fresh p.boots;
         finish = p.finish;
         ended = p.ended;
         status_is = refl;

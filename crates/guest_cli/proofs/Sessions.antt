@@ -10,11 +10,10 @@ use Rattle.session_frames.specs.Replies.{reply_frame}
 use Rattle.session_frames.proofs.Heads.{held_at}
 use Rattle.session_frames.proofs.Sessions.{went_not, went_on, over_not, over_on}
 use Rattle.session_frames.proofs.Streams.{length_of_bytes}
-use Rattle.verity_path.specs.declared.device.Device.{Device}
-use Rattle.guest_rules.specs.Machine.{State, Turn}
-use Rattle.guest_rules.specs.Run.{Runs, Ran, frames_of, log_line, frame_size}
+use Rattle.guest_rules.specs.Machine.{Setting, State, Turn}
+use Rattle.guest_rules.specs.Run.{IsEarly, Runs, Ran, frames_of, log_line, frame_size}
 use Rattle.guest_rules.proofs.Runs.{turns_size, turn_of, ran_none, ran_one, ran_both, frames_both, runs_both, runs_one, written_both, logged_both}
-use Rattle.guest_cli.specs.Turns.{Taken, read_frame}
+use Rattle.guest_cli.specs.Turns.{Taken, framed}
 use Rattle.guest_cli.specs.Session.{Answered, AnsweredOver, RanCut, HeardMuch, HeldOutcome, PieceOutcome}
 use Rattle.guest_cli.specs.declared.session.Stop.{Stop}
 use Rattle.guest_cli.specs.declared.session.Stop.TheVariants as stop
@@ -31,43 +30,50 @@ told_size h n heard is e = subst (λ (o : Option Exchanges). IsHeardSize o n) e 
 pub few_heard : (told : Told) (n : ℕ) → IsHeardSize told.heard n → n < 1073741824 → (heard : Exchanges) → told.heard ≡ Some heard → heard_size heard < 2 ^ 30
 few_heard told n is lt heard e = let m = told_size told.heard n heard is e in omega (arith, m, lt)
 
+early_by : (h : Option Exchanges) → ((heard : Exchanges) → h ≡ Some heard → heard_size heard < 2 ^ 30) → IsEarly h
+early_by None few = tt
+early_by (Some heard) few = few heard refl
+
+pub is_early : (told : Told) (n : ℕ) → IsHeardSize told.heard n → n < 1073741824 → IsEarly told.heard
+is_early told n is lt = early_by told.heard (few_heard told n is lt)
+
 pub much_heard : (told : Told) (n : ℕ) → IsHeardSize told.heard n → 1073741824 ≤ n → HeardMuch told
 much_heard told n is le heard e = let m = told_size told.heard n heard is e in omega (arith, m, le)
 
-pub held_start : (items : List Device) (s : State) (a : Told) (out log : Option (List ℕ)) (o : Held) → Answered items s s a a out out log log o o []
-held_start items s a out log o = record { went = went_not o; ran = ran_none items s a o.at out log }
+pub held_start : (g : Setting) (s : State) (a : Told) (out log : Option (List ℕ)) (o : Held) → Answered g s s a a out out log log o o []
+held_start g s a out log o = record { went = went_not o; ran = ran_none g s a o.at out log }
 
-module _ (items : List Device) (r s : State) (a b : Told) (out_a out_b log_a log_b : Option (List ℕ)) (o m : Held) (turns : List Turn) (so : Answered items r s a b out_a out_b log_a log_b o m turns) where
+module _ (g : Setting) (r s : State) (a b : Told) (out_a out_b log_a log_b : Option (List ℕ)) (o m : Held) (turns : List Turn) (so : Answered g r s a b out_a out_b log_a log_b o m turns) where
   -- where the next frame begins
   place : m.at ≡ o.at + turns_size turns
   place = so.went.at ∙ ap (λ n. o.at + n) (sym (size_is turns))
 
   -- one frame more, its line and reply written
-  pub held_on : (t : State) (c : Told) (out_c log_c : Option (List ℕ)) (n : Held) (payload rest : List ℕ) → Fronts m.held 1 payload rest → n ≡ held_at rest (m.at + length (frame 1 payload))
-      → ((heard : Exchanges) → b.heard ≡ Some heard → heard_size heard < 2 ^ 30)
-      → (w : Taken items s t b c (read_frame payload) (λ sent cause. Appends out_b out_c (reply_frame sent) × Appends log_b log_c (log_line m.at cause)))
-      → Answered items r t a c out_a out_c log_a log_c o n (turns ++ turn_of items s t b c (read_frame payload) w.sent w.cause w.step ∷ [])
-  held_on t c out_c log_c n payload rest f is few w =
-      let turn : Turn = turn_of items s t b c (read_frame payload) w.sent w.cause w.step in
-      let one = ran_one items s t b c m.at out_b out_c log_b log_c (read_frame payload) w.sent w.cause w.step few w.written.0 w.written.1 in
+  pub held_on : (t : State) (c : Told) (out_c log_c : Option (List ℕ)) (n : Held) (channel : ℕ) (payload rest : List ℕ) → Fronts m.held channel payload rest → n ≡ held_at rest (m.at + length (frame channel payload))
+      → IsEarly b.heard
+      → (w : Taken g s t b c (framed channel payload) (λ sent cause. Appends out_b out_c (reply_frame sent) × Appends log_b log_c (log_line m.at cause)))
+      → Answered g r t a c out_a out_c log_a log_c o n (turns ++ turn_of g s t b c (framed channel payload) w.sent w.cause w.step ∷ [])
+  held_on t c out_c log_c n channel payload rest f is few w =
+      let turn : Turn = turn_of g s t b c (framed channel payload) w.sent w.cause w.step in
+      let one = ran_one g s t b c m.at out_b out_c log_b log_c (framed channel payload) w.sent w.cause w.step few w.written.0 w.written.1 in
       record {
-        went = rw (frames_both turns (turn ∷ [])) (went_on o m n (frames_of turns) 1 payload rest so.went f is);
-        ran = ran_both items r s t a b c o.at out_a out_b out_c log_a log_b log_c turns (turn ∷ []) so.ran (subst (λ k. Ran items s t b c k out_b out_c log_b log_c (turn ∷ [])) place one);
+        went = rw (frames_both turns (turn ∷ [])) (went_on o m n (frames_of turns) channel payload rest so.went f is);
+        ran = ran_both g r s t a b c o.at out_a out_b out_c log_a log_b log_c turns (turn ∷ []) so.ran (subst (λ k. Ran g s t b c k out_b out_c log_b log_c (turn ∷ [])) place one);
       }
 
   -- the same, with the turns that it makes
-  pub held_next : (t : State) (c : Told) (out_c log_c : Option (List ℕ)) (n : Held) (payload rest : List ℕ) → Fronts m.held 1 payload rest → n ≡ held_at rest (m.at + length (frame 1 payload))
-      → ((heard : Exchanges) → b.heard ≡ Some heard → heard_size heard < 2 ^ 30)
-      → Taken items s t b c (read_frame payload) (λ sent cause. Appends out_b out_c (reply_frame sent) × Appends log_b log_c (log_line m.at cause))
-      → (all : List Turn) × Answered items r t a c out_a out_c log_a log_c o n all
-  held_next t c out_c log_c n payload rest f is few w = (_, held_on t c out_c log_c n payload rest f is few w)
+  pub held_next : (t : State) (c : Told) (out_c log_c : Option (List ℕ)) (n : Held) (channel : ℕ) (payload rest : List ℕ) → Fronts m.held channel payload rest → n ≡ held_at rest (m.at + length (frame channel payload))
+      → IsEarly b.heard
+      → Taken g s t b c (framed channel payload) (λ sent cause. Appends out_b out_c (reply_frame sent) × Appends log_b log_c (log_line m.at cause))
+      → (all : List Turn) × Answered g r t a c out_a out_c log_a log_c o n all
+  held_next t c out_c log_c n channel payload rest f is few w = (_, held_on t c out_c log_c n channel payload rest f is few w)
 
   -- one frame more, its line or reply written in part
-  pub held_cut : (t : State) (c : Told) (out_c log_c : Option (List ℕ)) (payload : List ℕ) → ((heard : Exchanges) → b.heard ≡ Some heard → heard_size heard < 2 ^ 30)
-      → (w : Taken items s t b c (read_frame payload) (λ sent cause. ((out_c ≡ out_b) × SomePrefix log_b log_c (log_line m.at cause)) ⊎ (SomePrefix out_b out_c (reply_frame sent) × Appends log_b log_c (log_line m.at cause))))
-      → RanCut (Runs items r t a c) o.at out_a out_c log_a log_c turns (turn_of items s t b c (read_frame payload) w.sent w.cause w.step)
-  held_cut t c out_c log_c payload few w = record {
-    runs = runs_both items r s t a b c turns _ so.ran.runs (runs_one items s t b c (read_frame payload) w.sent w.cause w.step few);
+  pub held_cut : (t : State) (c : Told) (out_c log_c : Option (List ℕ)) (channel : ℕ) (payload : List ℕ) → IsEarly b.heard
+      → (w : Taken g s t b c (framed channel payload) (λ sent cause. ((out_c ≡ out_b) × SomePrefix log_b log_c (log_line m.at cause)) ⊎ (SomePrefix out_b out_c (reply_frame sent) × Appends log_b log_c (log_line m.at cause))))
+      → RanCut (Runs g r t a c) o.at out_a out_c log_a log_c turns (turn_of g s t b c (framed channel payload) w.sent w.cause w.step)
+  held_cut t c out_c log_c channel payload few w = record {
+    runs = runs_both g r s t a b c turns _ so.ran.runs (runs_one g s t b c (framed channel payload) w.sent w.cause w.step few);
     out_mid = out_b;
     written = so.ran.written;
     log_mid = log_b;
@@ -76,38 +82,38 @@ module _ (items : List Device) (r s : State) (a b : Told) (out_a out_b log_a log
   }
 
   -- so the session stops there
-  pub held_stop : (t : State) (c : Told) (out_c log_c : Option (List ℕ)) (payload rest : List ℕ) → Fronts m.held 1 payload rest
-      → ((heard : Exchanges) → b.heard ≡ Some heard → heard_size heard < 2 ^ 30)
-      → Taken items s t b c (read_frame payload) (λ sent cause. ((out_c ≡ out_b) × SomePrefix log_b log_c (log_line m.at cause)) ⊎ (SomePrefix out_b out_c (reply_frame sent) × Appends log_b log_c (log_line m.at cause)))
-      → HeldOutcome items r t a c out_a out_c log_a log_c o m (Err stop.Write)
-  held_stop t c out_c log_c payload rest f few w =
-      (turns, turn_of items s t b c (read_frame payload) w.sent w.cause w.step, so.went, record { rest = rest; fronts = f }, held_cut t c out_c log_c payload few w)
+  pub held_stop : (t : State) (c : Told) (out_c log_c : Option (List ℕ)) (channel : ℕ) (payload rest : List ℕ) → Fronts m.held channel payload rest
+      → IsEarly b.heard
+      → Taken g s t b c (framed channel payload) (λ sent cause. ((out_c ≡ out_b) × SomePrefix log_b log_c (log_line m.at cause)) ⊎ (SomePrefix out_b out_c (reply_frame sent) × Appends log_b log_c (log_line m.at cause)))
+      → HeldOutcome g r t a c out_a out_c log_a log_c o m (Err stop.Write)
+  held_stop t c out_c log_c channel payload rest f few w =
+      (turns, turn_of g s t b c (framed channel payload) w.sent w.cause w.step, so.went, record { rest = rest; fronts = f }, held_cut t c out_c log_c channel payload few w)
 
 -- ---- piece by piece
 
-pub over_start : (items : List Device) (s : State) (a : Told) (out log : Option (List ℕ)) (o : Held) → AnsweredOver items s s a a out out log log o [] o []
-over_start items s a out log o = record { went = over_not o; ran = ran_none items s a o.at out log }
+pub over_start : (g : Setting) (s : State) (a : Told) (out log : Option (List ℕ)) (o : Held) → AnsweredOver g s s a a out out log log o [] o []
+over_start g s a out log o = record { went = over_not o; ran = ran_none g s a o.at out log }
 
-module _ (items : List Device) (r s : State) (a b : Told) (out_a out_b log_a log_b : Option (List ℕ)) (o m k : Held) (front part : List ℕ) (turns : List Turn)
-    (so : AnsweredOver items r s a b out_a out_b log_a log_b o front m turns) (fed : k.held ≡ m.held ++ part) (same : k.at ≡ m.at) where
+module _ (g : Setting) (r s : State) (a b : Told) (out_a out_b log_a log_b : Option (List ℕ)) (o m k : Held) (front part : List ℕ) (turns : List Turn)
+    (so : AnsweredOver g r s a b out_a out_b log_a log_b o front m turns) (fed : k.held ≡ m.held ++ part) (same : k.at ≡ m.at) where
   -- where the frames of the next part begin
   over_place : k.at ≡ o.at + turns_size turns
   over_place = same ∙ so.went.at ∙ ap (λ n. o.at + n) (sym (size_is turns))
 
   -- a further part of a piece was taken, and its frames were answered
-  pub over_more : (t : State) (c : Told) (out_c log_c : Option (List ℕ)) (n : Held) (later : List Turn) → Answered items s t b c out_b out_c log_b log_c k n later
-      → AnsweredOver items r t a c out_a out_c log_a log_c o (front ++ part) n (turns ++ later)
+  pub over_more : (t : State) (c : Told) (out_c log_c : Option (List ℕ)) (n : Held) (later : List Turn) → Answered g s t b c out_b out_c log_b log_c k n later
+      → AnsweredOver g r t a c out_a out_c log_a log_c o (front ++ part) n (turns ++ later)
   over_more t c out_c log_c n later w = record {
     went = rw (frames_both turns later) (over_on o m k n (frames_of turns) (frames_of later) front part so.went fed same w.went);
-    ran = ran_both items r s t a b c o.at out_a out_b out_c log_a log_b log_c turns later so.ran (subst (λ j. Ran items s t b c j out_b out_c log_b log_c later) over_place w.ran);
+    ran = ran_both g r s t a b c o.at out_a out_b out_c log_a log_b log_c turns later so.ran (subst (λ j. Ran g s t b c j out_b out_c log_b log_c later) over_place w.ran);
   }
 
-  pub over_cut : (t : State) (c : Told) (out_c log_c : Option (List ℕ)) (later : List Turn) (last : Turn) → RanCut (Runs items s t b c) k.at out_b out_c log_b log_c later last
-      → RanCut (Runs items r t a c) o.at out_a out_c log_a log_c (turns ++ later) last
+  pub over_cut : (t : State) (c : Told) (out_c log_c : Option (List ℕ)) (later : List Turn) (last : Turn) → RanCut (Runs g s t b c) k.at out_b out_c log_b log_c later last
+      → RanCut (Runs g r t a c) o.at out_a out_c log_a log_c (turns ++ later) last
   over_cut t c out_c log_c later last w =
       let count : k.at + length (bytes_of (frames_of later)) ≡ o.at + length (bytes_of (frames_of (turns ++ later))) = omega (arith, same, so.went.at, ap (λ (f : List Framed). length (bytes_of f)) (frames_both turns later), length_of_bytes (frames_of turns) (frames_of later)) in
       record {
-        runs = rw (append_assoc turns later (last ∷ [])) (runs_both items r s t a b c turns (later ++ last ∷ []) so.ran.runs w.runs);
+        runs = rw (append_assoc turns later (last ∷ [])) (runs_both g r s t a b c turns (later ++ last ∷ []) so.ran.runs w.runs);
         out_mid = w.out_mid;
         written = written_both out_a out_b w.out_mid turns later so.ran.written w.written;
         log_mid = w.log_mid;
@@ -116,16 +122,16 @@ module _ (items : List Device) (r s : State) (a b : Told) (out_a out_b log_a log
       }
 
 -- the frames of a further part were not all answered
-pub piece_stopped : (items : List Device) (r s t : State) (a b c : Told) (out_a out_b out_c log_a log_b log_c : Option (List ℕ)) (o m k n : Held) (piece front part left : List ℕ) (turns : List Turn) (why : Stop)
-    → AnsweredOver items r s a b out_a out_b log_a log_b o front m turns → k.held ≡ m.held ++ part → k.at ≡ m.at → piece ≡ (front ++ part) ++ left
-    → HeldOutcome items s t b c out_b out_c log_b log_c k n (Err why) → PieceOutcome items r t a c out_a out_c log_a log_c o piece n (Err why)
-piece_stopped items r s t a b c out_a out_b out_c log_a log_b log_c o m k n piece front part left turns stop.Bad so fed same parts w =
-    (turns ++ w.0, front ++ part, left, parts, over_more items r s a b out_a out_b log_a log_b o m k front part turns so fed same t c out_c log_c n w.0 w.1, w.2)
-piece_stopped items r s t a b c out_a out_b out_c log_a log_b log_c o m k n piece front part left turns stop.TooMuch so fed same parts w =
-    (turns ++ w.0, front ++ part, left, parts, over_more items r s a b out_a out_b log_a log_b o m k front part turns so fed same t c out_c log_c n w.0 w.1, w.2)
-piece_stopped items r s t a b c out_a out_b out_c log_a log_b log_c o m k n piece front part left turns stop.Unbuilt so fed same parts w =
-    (turns ++ w.0, front ++ part, left, parts, over_more items r s a b out_a out_b log_a log_b o m k front part turns so fed same t c out_c log_c n w.0 w.1, w.2)
-piece_stopped items r s t a b c out_a out_b out_c log_a log_b log_c o m k n piece front part left turns stop.Write so fed same parts w = (
+pub piece_stopped : (g : Setting) (r s t : State) (a b c : Told) (out_a out_b out_c log_a log_b log_c : Option (List ℕ)) (o m k n : Held) (piece front part left : List ℕ) (turns : List Turn) (why : Stop)
+    → AnsweredOver g r s a b out_a out_b log_a log_b o front m turns → k.held ≡ m.held ++ part → k.at ≡ m.at → piece ≡ (front ++ part) ++ left
+    → HeldOutcome g s t b c out_b out_c log_b log_c k n (Err why) → PieceOutcome g r t a c out_a out_c log_a log_c o piece n (Err why)
+piece_stopped g r s t a b c out_a out_b out_c log_a log_b log_c o m k n piece front part left turns stop.Bad so fed same parts w =
+    (turns ++ w.0, front ++ part, left, parts, over_more g r s a b out_a out_b log_a log_b o m k front part turns so fed same t c out_c log_c n w.0 w.1, w.2)
+piece_stopped g r s t a b c out_a out_b out_c log_a log_b log_c o m k n piece front part left turns stop.TooMuch so fed same parts w =
+    (turns ++ w.0, front ++ part, left, parts, over_more g r s a b out_a out_b log_a log_b o m k front part turns so fed same t c out_c log_c n w.0 w.1, w.2)
+piece_stopped g r s t a b c out_a out_b out_c log_a log_b log_c o m k n piece front part left turns stop.Unbuilt so fed same parts w =
+    (turns ++ w.0, front ++ part, left, parts, over_more g r s a b out_a out_b log_a log_b o m k front part turns so fed same t c out_c log_c n w.0 w.1, w.2)
+piece_stopped g r s t a b c out_a out_b out_c log_a log_b log_c o m k n piece front part left turns stop.Write so fed same parts w = (
   turns ++ w.0,
   w.1,
   front ++ part,
@@ -133,5 +139,5 @@ piece_stopped items r s t a b c out_a out_b out_c log_a log_b log_c o m k n piec
   parts,
   rw (frames_both turns w.0) (over_on o m k n (frames_of turns) (frames_of w.0) front part so.went fed same w.2),
   w.3,
-  over_cut items r s a b out_a out_b log_a log_b o m k front part turns so fed same t c out_c log_c w.0 w.1 w.4,
+  over_cut g r s a b out_a out_b log_a log_b o m k front part turns so fed same t c out_c log_c w.0 w.1 w.4,
 )

@@ -1,13 +1,13 @@
 -- How a session ends, and what it has done.
-use Rattle.std.specs.Prelude.{◌≡◌, ◌≢◌, ℕ, ◌^◌, ◌+◌, ◌-◌, ◌<◌, ◌≤◌, List, [], ◌∷◌, ◌++◌, length, take, Option, Some, Result, Ok, Err, ◌⊎◌}
+use Rattle.std.specs.Prelude.{Bool, true, ◌≡◌, ◌≢◌, ◌==◌, ◌&&◌, ◌||◌, nat_lt, nat_le, ℕ, ◌^◌, ◌+◌, ◌-◌, ◌<◌, ◌≤◌, List, [], ◌∷◌, ◌++◌, length, take, drop, Option, Some, Result, Ok, Err, ◌⊎◌}
+use Rattle.std.specs.Int.{w32, from_le_bytes}
 use Rattle.std.specs.Io.KnownBytes.{Appends, IsAtEnd}
 use Rattle.host_traits.specs.Streams.{SomePrefix}
 use Rattle.host_traits.specs.Told.{Told, Exchanges, heard_size}
 use Rattle.session_frames.specs.Frames.{Held, Fronts, IsCutOff, BeginsNone, bytes_of}
 use Rattle.session_frames.specs.Session.{Went, WentOver, Came}
 use Rattle.session_frames.specs.Replies.{reply_frame}
-use Rattle.verity_path.specs.declared.device.Device.{Device}
-use Rattle.guest_rules.specs.Machine.{State, Turn}
+use Rattle.guest_rules.specs.Machine.{Setting, State, Turn}
 use Rattle.guest_rules.specs.Run.{Runs, Ran, frames_of, out_bytes, log_bytes, log_line}
 use Rattle.guest_cli.specs.declared.session.SessionEnd.{SessionEnd}
 use Rattle.guest_cli.specs.declared.session.SessionEnd.TheVariants.{Read, Write, BadFrame, TooMuch, Unbuilt}
@@ -48,14 +48,14 @@ pub record RanCut (R : List Turn → Type 0) (at : ℕ) (out_old out_new log_old
       ⊎ (SomePrefix out_mid out_new (reply_frame last.sent) × Appends log_mid log_new (log_line (at + turns_size turns) last.cause))
 
 -- what was done with the frames at the front of what is held
-pub record Answered (items : List Device) (old_state new_state : State) (old new : Told) (out_old out_new log_old log_new : Option (List ℕ)) (held_old held_new : Held) (turns : List Turn) : Type 0 where
+pub record Answered (g : Setting) (old_state new_state : State) (old new : Told) (out_old out_new log_old log_new : Option (List ℕ)) (held_old held_new : Held) (turns : List Turn) : Type 0 where
   pub went : Went held_old held_new (frames_of turns)
-  pub ran : Ran items old_state new_state old new held_old.at out_old out_new log_old log_new turns
+  pub ran : Ran g old_state new_state old new held_old.at out_old out_new log_old log_new turns
 
 -- the same of what is held and then a piece
-pub record AnsweredOver (items : List Device) (old_state new_state : State) (old new : Told) (out_old out_new log_old log_new : Option (List ℕ)) (held_old : Held) (piece : List ℕ) (held_new : Held) (turns : List Turn) : Type 0 where
+pub record AnsweredOver (g : Setting) (old_state new_state : State) (old new : Told) (out_old out_new log_old log_new : Option (List ℕ)) (held_old : Held) (piece : List ℕ) (held_new : Held) (turns : List Turn) : Type 0 where
   pub went : WentOver held_old piece held_new (frames_of turns)
-  pub ran : Ran items old_state new_state old new held_old.at out_old out_new log_old log_new turns
+  pub ran : Ran g old_state new_state old new held_old.at out_old out_new log_old log_new turns
 
 -- a frame that is whole in front
 pub record IsWhole (bytes : List ℕ) : Type 0 where
@@ -64,13 +64,21 @@ pub record IsWhole (bytes : List ℕ) : Type 0 where
   pub rest : List ℕ
   pub fronts : Fronts bytes channel payload rest
 
--- a frame of a channel that isn't served yet
+-- the operation that a message names, whatever else is wrong with it
+abbrev pub opcode_in : List ℕ → ℕ
+opcode_in payload = from_le_bytes w32 (take 4 (drop 4 payload))
+
+-- what isn't served yet: channels 2 and 3, and of channel 0 the operations 27 to 29 (OPENDIR, READDIR and RELEASEDIR)
+abbrev pub is_unbuilt : ℕ → List ℕ → Bool
+is_unbuilt channel payload = nat_lt 1 channel || ((channel == 0) && (nat_le 27 (opcode_in payload) && nat_le (opcode_in payload) 29))
+
+-- a frame that isn't served yet
 pub record IsUnbuilt (bytes : List ℕ) : Type 0 where
   pub channel : ℕ
   pub payload : List ℕ
   pub rest : List ℕ
   pub fronts : Fronts bytes channel payload rest
-  pub other : channel ≢ 1
+  pub is : is_unbuilt channel payload ≡ true
 
 -- the frame of a turn is whole in front
 pub record IsFront (bytes : List ℕ) (turn : Turn) : Type 0 where
@@ -85,18 +93,18 @@ WhyStopped stop.Unbuilt told held = HeardFew told × IsUnbuilt held
 WhyStopped stop.Write told held = ⊥
 
 -- what came of the frames at the front of what is held
-abbrev pub HeldOutcome : List Device → State → State → Told → Told → Option (List ℕ) → Option (List ℕ) → Option (List ℕ) → Option (List ℕ) → Held → Held → Result (Unit {0}) Stop → Type 0
-HeldOutcome items r s a b out_a out_b log_a log_b o n (Ok _) = (turns : List Turn) × Answered items r s a b out_a out_b log_a log_b o n turns × IsCutOff n.held
-HeldOutcome items r s a b out_a out_b log_a log_b o n (Err stop.Write) = (turns : List Turn) × (last : Turn) × Went o n (frames_of turns) × IsFront n.held last × RanCut (Runs items r s a b) o.at out_a out_b log_a log_b turns last
-HeldOutcome items r s a b out_a out_b log_a log_b o n (Err why) = (turns : List Turn) × Answered items r s a b out_a out_b log_a log_b o n turns × WhyStopped why b n.held
+abbrev pub HeldOutcome : Setting → State → State → Told → Told → Option (List ℕ) → Option (List ℕ) → Option (List ℕ) → Option (List ℕ) → Held → Held → Result (Unit {0}) Stop → Type 0
+HeldOutcome g r s a b out_a out_b log_a log_b o n (Ok _) = (turns : List Turn) × Answered g r s a b out_a out_b log_a log_b o n turns × IsCutOff n.held
+HeldOutcome g r s a b out_a out_b log_a log_b o n (Err stop.Write) = (turns : List Turn) × (last : Turn) × Went o n (frames_of turns) × IsFront n.held last × RanCut (Runs g r s a b) o.at out_a out_b log_a log_b turns last
+HeldOutcome g r s a b out_a out_b log_a log_b o n (Err why) = (turns : List Turn) × Answered g r s a b out_a out_b log_a log_b o n turns × WhyStopped why b n.held
 
 -- what came of the frames that are whole with a piece
-abbrev pub PieceOutcome : List Device → State → State → Told → Told → Option (List ℕ) → Option (List ℕ) → Option (List ℕ) → Option (List ℕ) → Held → List ℕ → Held → Result (Unit {0}) Stop → Type 0
-PieceOutcome items r s a b out_a out_b log_a log_b o piece n (Ok _) = (turns : List Turn) × AnsweredOver items r s a b out_a out_b log_a log_b o piece n turns × IsCutOff n.held
-PieceOutcome items r s a b out_a out_b log_a log_b o piece n (Err stop.Write) = (turns : List Turn) × (last : Turn) × (front : List ℕ) × (left : List ℕ) × (piece ≡ front ++ left)
-    × WentOver o front n (frames_of turns) × IsFront n.held last × RanCut (Runs items r s a b) o.at out_a out_b log_a log_b turns last
-PieceOutcome items r s a b out_a out_b log_a log_b o piece n (Err why) = (turns : List Turn) × (front : List ℕ) × (left : List ℕ) × (piece ≡ front ++ left)
-    × AnsweredOver items r s a b out_a out_b log_a log_b o front n turns × WhyStopped why b n.held
+abbrev pub PieceOutcome : Setting → State → State → Told → Told → Option (List ℕ) → Option (List ℕ) → Option (List ℕ) → Option (List ℕ) → Held → List ℕ → Held → Result (Unit {0}) Stop → Type 0
+PieceOutcome g r s a b out_a out_b log_a log_b o piece n (Ok _) = (turns : List Turn) × AnsweredOver g r s a b out_a out_b log_a log_b o piece n turns × IsCutOff n.held
+PieceOutcome g r s a b out_a out_b log_a log_b o piece n (Err stop.Write) = (turns : List Turn) × (last : Turn) × (front : List ℕ) × (left : List ℕ) × (piece ≡ front ++ left)
+    × WentOver o front n (frames_of turns) × IsFront n.held last × RanCut (Runs g r s a b) o.at out_a out_b log_a log_b turns last
+PieceOutcome g r s a b out_a out_b log_a log_b o piece n (Err why) = (turns : List Turn) × (front : List ℕ) × (left : List ℕ) × (piece ≡ front ++ left)
+    × AnsweredOver g r s a b out_a out_b log_a log_b o front n turns × WhyStopped why b n.held
 
 -- of the bytes behind the frames of some turns, those within the limit
 abbrev pub in_limit : List Turn → List ℕ → List ℕ

@@ -9,7 +9,8 @@ ghost use Rattle.guest_cli.specs.Booted.{BootedOutcome};
 
 use crate::engine::Engine;
 use crate::entropy::Entropy;
-use guest_boot::{BootCause, BootFault, open_lines};
+use guest_boot::{BootCause, BootFault, Opened, open_lines};
+use guest_names::plant_lines;
 use guest_plan::{How, Plan, PlanLine};
 use host_traits::{Host, Raw};
 use mg_base::{Memory, Page};
@@ -89,6 +90,16 @@ fn take_rooms(alloc: Global) -> Result<Rooms, Memory>
     })
 }
 
+// There was no memory, which is no line's fault.
+fn no_memory() -> BootFault
+    ensures { result ≡ record { line = 1; why = BootCause.Memory } }
+{
+    BootFault {
+        line: 1,
+        why: BootCause::Memory,
+    }
+}
+
 /// Makes a machine for a plan: its lines are opened in their order, by calls of the host. Room for one answer, one page, one
 /// reply and one frame is taken here, and none later: over a host that takes no memory, a measured read takes none.
 pub fn boot<H: Host>(
@@ -101,8 +112,7 @@ pub fn boot<H: Host>(
     requires built { first_unbuilt (known plan.now) ≡ None }
     ensures booted { Did (IsForLines plan.now.lines.items) (most_of plan.now.lines.items)
         (H.told host.old) (H.told host.new)
-        (BootedOutcome plan.now.lines.items plan.now.numbers.items result) }
-    ensures state { IfOk result (λ m. m.engine.state ≡ record { entropy = entropy }) }
+        (BootedOutcome plan.now.lines.items plan.now.numbers.items entropy result) }
     ensures splitter { IfOk result (λ m. m.splitter ≡ record { held = []; at = 0 }) }
 {
     let Rooms {
@@ -111,19 +121,19 @@ pub fn boot<H: Host>(
         splitter,
     } = match take_rooms(alloc) {
         Ok(rooms) => rooms,
-        Err(_) => {
-            return Err(BootFault {
-                line: 1,
-                why: BootCause::Memory,
-            });
-        }
+        Err(_) => return Err(no_memory()),
     };
-    let opened = match open_lines(alloc, host, &plan.lines, &plan.numbers, &mut buf.raw) {
-        Ok(opened) => opened,
-        Err(fault) => return Err(fault),
+    let Opened { items, files } =
+        match open_lines(alloc, host, &plan.lines, &plan.numbers, &mut buf.raw) {
+            Ok(opened) => opened,
+            Err(fault) => return Err(fault),
+        };
+    let server = match plant_lines(alloc, plan, &files) {
+        Ok(server) => server,
+        Err(_) => return Err(no_memory()),
     };
     Ok(Machine {
-        engine: Engine::new(opened, entropy, served, buf),
+        engine: Engine::new(items, server, entropy, served, buf),
         splitter,
     })
 }

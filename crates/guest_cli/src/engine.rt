@@ -1,16 +1,18 @@
 // The work of one frame.
 ghost use Rattle.std.specs.Prelude.{◌≡◌, ◌≤◌, ◌<◌, ◌+◌, ◌*◌, ℕ, List, [], length, take, drop, slice_get};
 ghost use Rattle.std.specs.Int.{w32, w64, from_le_bytes};
-ghost use Rattle.session_frames.specs.Replies.{sent_of};
-ghost use Rattle.guest_rules.specs.Machine.{AreItems, item_read};
+ghost use Rattle.session_frames.specs.Frames.{IsPayload};
+ghost use Rattle.session_frames.specs.Replies.{sent_if};
+ghost use Rattle.guest_rules.specs.Machine.{AreItems, item_read, request_of};
 ghost use Rattle.guest_rules.specs.Step.{Stepped};
-ghost use Rattle.guest_rules.specs.Faithful.{ReadIsServed};
-ghost use Rattle.guest_cli.specs.Works.{answer_to_read};
+ghost use Rattle.guest_rules.specs.Faithful.{RequestIsServed};
+ghost use Rattle.guest_cli.specs.Turns.{framed};
+ghost use Rattle.guest_cli.specs.Works.{answer_to_read, message_frame};
 
 use crate::entropy::Entropy;
-use guest_boot::Opened;
+use fuse_codec::FuseReply;
+use fuse_server::Server;
 use host_traits::Host;
-use ro_file::RoFile;
 use session_frames::ReplyFrame;
 use std::marker::Model;
 use verity_path::{Buffers, Cause, Device, Served, WalkFault, read_range};
@@ -19,7 +21,7 @@ use verity_path::{Buffers, Cause, Device, Served, WalkFault, read_range};
 #[derive(Drop)]
 pub struct Engine {
     items: Vec<Device>,
-    files: Vec<RoFile>,
+    server: Server,
     entropy: Entropy,
     served: Served,
     buf: Buffers,
@@ -31,15 +33,19 @@ impl Model for Engine {
 
     ghost Value = { Works };
 
-    ghost view = { λ e. record { items = e.items.items; files = e.files.items; state = record { entropy = e.entropy }; served = e.served } };
+    ghost view = { λ e. record {
+      setting = record { items = e.items.items };
+      state = record { fuse = e.server; entropy = e.entropy };
+      served = e.served;
+    } };
 
     ghost invariant = { λ e. AreItems e.items.items };
 }
 
-/// A reply, and why it is a failure.
-#[derive(Clone, Copy, Debug, PartialEq, Eq, Drop)]
+/// A reply, where there is one, and why it is a failure.
+#[derive(Drop)]
 pub struct FrameAnswer {
-    pub reply: ReplyFrame,
+    pub reply: Option<ReplyFrame>,
     pub cause: Option<Cause>,
 }
 
@@ -73,10 +79,10 @@ fn parse(payload: &[u8]) -> ItemQuestion
 
 // A reply of channel 1 by its code alone.
 fn code(code: u32, cause: Option<Cause>) -> FrameAnswer
-    ensures { result ≡ record { reply = ReplyFrame.Code 1 code; cause = cause } }
+    ensures { result ≡ record { reply = Some (ReplyFrame.Code 1 code); cause = cause } }
 {
     FrameAnswer {
-        reply: ReplyFrame::Code { channel: 1, code },
+        reply: Some(ReplyFrame::Code { channel: 1, code }),
         cause,
     }
 }
@@ -87,7 +93,7 @@ fn read_answer(done: Result<(), WalkFault>) -> FrameAnswer
 {
     match done {
         Ok(()) => FrameAnswer {
-            reply: ReplyFrame::Bytes,
+            reply: Some(ReplyFrame::Bytes),
             cause: None,
         },
         Err(WalkFault::Mismatch(mismatch)) => code(5, Some(Cause::Mismatch(mismatch))),
@@ -97,29 +103,42 @@ fn read_answer(done: Result<(), WalkFault>) -> FrameAnswer
     }
 }
 
+// The frame of a reply to a message.
+fn message_frame(reply: Option<FuseReply>) -> Option<ReplyFrame>
+    ensures { result ≡ message_frame reply }
+{
+    match reply {
+        Some(reply) => Some(ReplyFrame::Fuse(reply)),
+        None => None,
+    }
+}
+
 impl Engine {
-    // An engine of these devices and files.
-    pub(crate) fn new(opened: Opened, entropy: Entropy, served: Served, buf: Buffers) -> Engine
-        requires { AreItems opened.items.items }
+    // An engine of these devices and this server.
+    pub(crate) fn new(
+        items: Vec<Device>,
+        server: Server,
+        entropy: Entropy,
+        served: Served,
+        buf: Buffers,
+    ) -> Engine
+        requires { AreItems items.items }
         ensures { result ≡ record {
-          items = opened.items.items;
-          files = opened.files.items;
-          state = record
-              { entropy = entropy };
+          setting = record { items = items.items };
+          state = record { fuse = server; entropy = entropy };
           served = served;
         } }
     {
-        let Opened { items, files } = opened;
         Engine {
             items,
-            files,
+            server,
             entropy,
             served,
             buf,
         }
     }
 
-    /// The bytes that a reply `Bytes` sends.
+    /// The bytes that a reply `Bytes`, or one to a READ, sends.
     pub fn served(&self) -> &Served
         ensures { result.now ≡ self.now.served }
     {
@@ -127,14 +146,16 @@ impl Engine {
     }
 }
 
-// The work of one frame, as one step of the machine.
-fn work<H: Host>(engine: &mut Engine, host: &mut H, channel: u8, payload: &[u8]) -> FrameAnswer
-    requires channel { channel ≡ 1 }
-    requires payload { length payload.now ≡ 16 }
-    ensures items { engine.new.items ≡ engine.old.items }
-    ensures step { Stepped engine.old.items engine.old.state engine.new.state (H.told host.old)
-        (H.told host.new)
-        (record { channel = channel; payload = payload.now }) (sent_of result.reply engine.new.served) result.cause }
+// A read of a measured item, as one step of the machine.
+fn answer_read<H: Host>(engine: &mut Engine, host: &mut H, payload: &[u8]) -> FrameAnswer
+    requires { length payload.now ≡ 16 }
+    ensures setting { engine.new.setting ≡ engine.old.setting }
+    ensures step { Stepped engine.old.setting engine.old.state engine.new.state
+        (H.told host.old) (H.told host.new)
+        (framed 1 payload.now) (sent_if result.reply engine.new.served) result.cause }
+    ensures served { RequestIsServed engine.old.setting engine.old.state
+        (request_of (framed 1 payload.now)) (H.told host.old) (H.told host.new)
+        (sent_if result.reply engine.new.served) result.cause }
 {
     let question = parse(payload);
     if question.item as usize >= engine.items.len() {
@@ -158,24 +179,48 @@ fn work<H: Host>(engine: &mut Engine, host: &mut H, channel: u8, payload: &[u8])
     read_answer(done)
 }
 
-/// The work of one frame: the reply, and why it is a failure. A read of a measured item is answered with code 2 where there is
-/// no such item, else with 22 where its size is above 131,072, else with the bytes, or with 5 or 12. Over a host
-/// that holds the item as it was measured, a read in which no call fails is answered with the bytes, or with 12, and so is each
-/// read over an honest one.
+// A message of FUSE, as one step of the machine.
+fn answer_message<H: Host>(engine: &mut Engine, host: &mut H, message: &[u8]) -> FrameAnswer
+    requires { 40 ≤ length message.now }
+    ensures setting { engine.new.setting ≡ engine.old.setting }
+    ensures step { Stepped engine.old.setting engine.old.state engine.new.state
+        (H.told host.old) (H.told host.new)
+        (framed 0 message.now) (sent_if result.reply engine.new.served) result.cause }
+    ensures served { RequestIsServed engine.old.setting engine.old.state
+        (request_of (framed 0 message.now)) (H.told host.old) (H.told host.new)
+        (sent_if result.reply engine.new.served) result.cause }
+{
+    let answer = engine
+        .server
+        .answer(host, message, &mut engine.buf, &mut engine.served);
+    FrameAnswer {
+        reply: message_frame(answer.reply),
+        cause: answer.cause,
+    }
+}
+
+/// The work of one frame of channel 0 or 1: the reply, where there is one, and why it is a failure. A message of FUSE is answered
+/// as `fuse_server` has it. A read of a measured item is answered with code 2 where there is no such item, else with 22 where its
+/// size is above 131,072, else with the bytes, or with 5 or 12. Over a host that holds the item as it was measured, or the file of
+/// a READ, a read in which no call fails is answered with the bytes, or want of memory, and so is each read over an honest one.
 pub fn answer_frame<H: Host>(
     engine: &mut Engine,
     host: &mut H,
     channel: u8,
     payload: &[u8],
 ) -> FrameAnswer
-    requires channel { channel ≡ 1 }
-    requires payload { length payload.now ≡ 16 }
-    ensures items { engine.new.items ≡ engine.old.items }
-    ensures step { Stepped engine.old.items engine.old.state engine.new.state (H.told host.old)
-        (H.told host.new)
-        (record { channel = channel; payload = payload.now }) (sent_of result.reply engine.new.served) result.cause }
-    ensures served { ReadIsServed engine.old.items (H.told host.old) (H.told host.new)
-        (record { channel = channel; payload = payload.now }) (sent_of result.reply engine.new.served) result.cause }
+    requires channel { channel < 2 }
+    requires payload { IsPayload channel (length payload.now) }
+    ensures setting { engine.new.setting ≡ engine.old.setting }
+    ensures step { Stepped engine.old.setting engine.old.state engine.new.state
+        (H.told host.old) (H.told host.new)
+        (framed channel payload.now) (sent_if result.reply engine.new.served) result.cause }
+    ensures served { RequestIsServed engine.old.setting engine.old.state
+        (request_of (framed channel payload.now)) (H.told host.old) (H.told host.new)
+        (sent_if result.reply engine.new.served) result.cause }
 {
-    work(engine, host, channel, payload)
+    if channel == 0 {
+        return answer_message(engine, host, payload);
+    }
+    answer_read(engine, host, payload)
 }

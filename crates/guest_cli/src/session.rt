@@ -1,11 +1,11 @@
 // Frames, one after another, from a stream that comes in pieces.
 ghost use Rattle.std.specs.Prelude.{◌≡◌, ◌≤◌, ◌<◌, ◌+◌, ◌^◌, ℕ, List, [], length, OnOk, OnErr, ◌⊎◌};
 ghost use Rattle.host_traits.specs.Told.{Rose};
-ghost use Rattle.session_frames.specs.Frames.{Fronts, IsCutOff};
+ghost use Rattle.session_frames.specs.Frames.{IsPayload, Fronts, IsCutOff};
 ghost use Rattle.guest_rules.specs.Machine.{Turn};
 ghost use Rattle.guest_rules.specs.Run.{Runs};
 ghost use Rattle.guest_cli.specs.Turns.{TurnOutcome};
-ghost use Rattle.guest_cli.specs.Session.{HeldOutcome, PieceOutcome, IsSession, end_of};
+ghost use Rattle.guest_cli.specs.Session.{HeldOutcome, PieceOutcome, IsSession, is_unbuilt, end_of};
 
 use crate::engine::{Engine, answer_frame};
 use crate::log::cause_line;
@@ -26,7 +26,8 @@ pub enum SessionEnd {
     BadFrame { at: u64 },
     /// More than 2^30 bytes came, or at least so many were heard before a frame was answered.
     TooMuch,
-    /// At this offset begins a frame of a channel that isn't served yet.
+    /// At this offset begins a frame that isn't served yet: of channel 2 or 3, or of channel 0 with the operation OPENDIR, READDIR
+    /// or RELEASEDIR.
     Unbuilt { at: u64 },
 }
 
@@ -39,26 +40,40 @@ enum Stop {
     Unbuilt,
 }
 
+// Is it a frame that isn't served yet?
+fn is_unbuilt(channel: u8, payload: &[u8]) -> bool
+    requires { 16 ≤ length payload.now }
+    ensures { result ≡ is_unbuilt channel payload.now }
+{
+    let mut opcode = [0; 4];
+    opcode.copy_from_slice(&payload[4..8]);
+    let opcode = u32::from_le_bytes(opcode);
+    channel > 1 || (channel == 0 && (27 <= opcode && opcode <= 29))
+}
+
 // Answers one frame: its line of the log first, then its reply.
 fn turn<H: Host, K: Sink, L: Sink>(
     engine: &mut Engine,
     host: &mut H,
+    channel: u8,
     payload: &[u8],
     at: u64,
     out: &mut K,
     log: &mut L,
 ) -> Result<(), Failed>
-    requires payload { length payload.now ≡ 16 }
-    ensures items { engine.new.items ≡ engine.old.items }
-    ensures turn { TurnOutcome engine.old.items engine.old.state engine.new.state (H.told host.old)
-        (H.told host.new) at (K.holds out.old) (K.holds out.new) (L.holds log.old) (L.holds log.new)
-        payload.now result }
+    requires channel { channel < 2 }
+    requires payload { IsPayload channel (length payload.now) }
+    ensures setting { engine.new.setting ≡ engine.old.setting }
+    ensures turn { TurnOutcome engine.old.setting engine.old.state engine.new.state
+        (H.told host.old) (H.told host.new) at
+        (K.holds out.old) (K.holds out.new) (L.holds log.old) (L.holds log.new)
+        channel payload.now result }
     ensures out { K.faults out.old ≤ K.faults out.new }
     ensures log { L.faults log.old ≤ L.faults log.new }
     ensures cause { OnErr result
         (Rose (K.faults out.old) (K.faults out.new) ⊎ Rose (L.faults log.old) (L.faults log.new)) }
 {
-    let answer = answer_frame(engine, host, 1, payload);
+    let answer = answer_frame(engine, host, channel, payload);
     if let Some(cause) = answer.cause {
         let line = cause_line(at, &cause);
         match log.write_all(line.bytes()) {
@@ -66,7 +81,10 @@ fn turn<H: Host, K: Sink, L: Sink>(
             Err(failed) => return Err(failed),
         }
     }
-    write_frame(&answer.reply, engine.served(), out)
+    match answer.reply {
+        Some(reply) => write_frame(&reply, engine.served(), out),
+        None => Ok(()),
+    }
 }
 
 // Answers each whole frame at the front.
@@ -78,8 +96,8 @@ fn answer_held<H: Host, K: Sink, L: Sink>(
     log: &mut L,
 ) -> Result<(), Stop>
     requires { splitter.old.at + length splitter.old.held < 2 ^ 64 }
-    ensures items { engine.new.items ≡ engine.old.items }
-    ensures held { HeldOutcome engine.old.items engine.old.state engine.new.state (H.told host.old)
+    ensures setting { engine.new.setting ≡ engine.old.setting }
+    ensures held { HeldOutcome engine.old.setting engine.old.state engine.new.state (H.told host.old)
         (H.told host.new) (K.holds out.old) (K.holds out.new) (L.holds log.old) (L.holds log.new)
         splitter.old splitter.new result }
     ensures out { K.faults out.old ≤ K.faults out.new }
@@ -96,10 +114,10 @@ fn answer_held<H: Host, K: Sink, L: Sink>(
         if host.heard_bytes() >= LIMIT {
             return Err(Stop::TooMuch);
         }
-        if channel != 1 {
+        if is_unbuilt(channel, payload) {
             return Err(Stop::Unbuilt);
         }
-        match turn(engine, host, payload, splitter.at(), out, log) {
+        match turn(engine, host, channel, payload, splitter.at(), out, log) {
             Ok(()) => {}
             Err(_) => return Err(Stop::Write),
         }
@@ -118,8 +136,8 @@ fn answer_piece<H: Host, K: Sink, L: Sink>(
 ) -> Result<(), Stop>
     requires at { splitter.old.at + (length splitter.old.held + length piece.now) < 2 ^ 64 }
     requires cut { IsCutOff splitter.old.held }
-    ensures items { engine.new.items ≡ engine.old.items }
-    ensures piece { PieceOutcome engine.old.items engine.old.state engine.new.state
+    ensures setting { engine.new.setting ≡ engine.old.setting }
+    ensures piece { PieceOutcome engine.old.setting engine.old.state engine.new.state
         (H.told host.old) (H.told host.new) (K.holds out.old) (K.holds out.new) (L.holds log.old)
         (L.holds log.new) splitter.old piece.now splitter.new result }
     ensures out { K.faults out.old ≤ K.faults out.new }
@@ -163,9 +181,9 @@ pub fn session<H: Host, S: Source, K: Sink, L: Sink>(
     log: &mut L,
 ) -> Result<(), SessionEnd>
     requires { splitter.old ≡ record { held = []; at = 0 } }
-    ensures items { engine.new.items ≡ engine.old.items }
+    ensures setting { engine.new.setting ≡ engine.old.setting }
     ensures run { IsSession
-        (Runs engine.old.items engine.old.state engine.new.state (H.told host.old)
+        (Runs engine.old.setting engine.old.state engine.new.state (H.told host.old)
         (H.told host.new))
         (H.told host.new)
         (record { input = S.left input.old; out = K.holds out.old; log = L.holds log.old })

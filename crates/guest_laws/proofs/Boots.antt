@@ -57,7 +57,7 @@ blob_passes (File f) e = absurd e
 blob_passes (Failed faults) e = absurd e
 blob_passes (Short asked got) e = absurd e
 
-module _ (lines : List PlanLine) (numbers : List ℕ) (world : World) (h : Held) (fits : Fits lines world h) (t : Trace) (heard : AreHeld h t.own) (calm : CanNotFail h t) where
+module _ (lines : List PlanLine) (numbers entropy : List ℕ) (world : World) (h : Held) (fits : Fits lines world h) (t : Trace) (heard : AreHeld h t.own) (calm : CanNotFail h t) where
   line_passes : (before : List PlanLine) (l : PlanLine) (after : List PlanLine) (first rest : Exchanges) (mid : Booted) (why : BootCause) → lines ≡ before ++ l ∷ after → t.own ≡ first ++ rest
       → Boots nothing before first mid → LineFails mid l why (later_of t rest) → why ≡ Memory
   line_passes before (line.Blob file m) after first rest mid why are cut booted fails = blob_passes why fails.1
@@ -72,13 +72,13 @@ module _ (lines : List PlanLine) (numbers : List ℕ) (world : World) (h : Held)
       let l : PlanLine = line.File name file digest in
       let f = fits.files (length before) name file digest (subst (λ (z : List PlanLine). slice_get z (length before) ≡ Some l) (sym are) (stands_at before l after)) in
       let truly : (call : Call) (said : Said) → IsIn call said rest → serve h call [] ≡ Some (said, h) = λ call said i. heard call said (subst (IsIn call said) (sym cut) (in_right call said first rest i)) in
-      file_passes h file digest f.bytes f.salt f.holds (later_of t rest) truly calm why fails
+      file_passes h file digest f.known.content f.known.salt f.holds (later_of t rest) truly calm why fails
   line_passes before other after first rest mid why are cut booted fails = absurd fails
 
   pub fault_passes : (fault : BootFault) → IsFault lines numbers fault t → fault.why ≡ Memory
   fault_passes fault f = line_passes f.before f.line f.after f.first f.rest f.mid fault.why f.lines_are f.cut f.booted f.fails
 
-  pub outcome_passes : (result : Result Machine BootFault) → BootedOutcome lines numbers result t → IfErr result (λ fault. fault.why ≡ Memory)
+  pub outcome_passes : (result : Result Machine BootFault) → BootedOutcome lines numbers entropy result t → IfErr result (λ fault. fault.why ≡ Memory)
   outcome_passes (Ok m) o = tt
   outcome_passes (Err fault) (inl none) = none.0
   outcome_passes (Err fault) (inr f) = fault_passes fault f
@@ -88,10 +88,10 @@ pub lines_call : (lines : List PlanLine) (own : List Made) → Each (reads (IsFo
 lines_call lines own each = each_so (reads (IsForLines lines)) (reads IsBootCall) own (λ call given p. (boot_call p.0.line call p.0.for, p.1)) each
 
 pub boots_pass : BootsPass
-boots_pass lines numbers world old new result h did told calm fits =
+boots_pass lines numbers entropy world old new result h did told calm fits =
     let after = subst (λ (o : Option Held). HeldAfter old.honest o did.own new.held) told did.talked.held in
     let calls = lines_call lines did.own did.calls in
     let boot = boot_held old.honest did.own h after.0 after.2 calls in (
-      outcome_passes lines numbers world h fits (trace_of (heard_of did.own) (failures_of did.own) old new) boot.1 (λ call said one last serves. not_failed old new did.own h call said did.talked told calm calls one last serves) result did.outcome,
+      outcome_passes lines numbers entropy world h fits (trace_of (heard_of did.own) (failures_of did.own) old new) boot.1 (λ call said one last serves. not_failed old new did.own h call said did.talked told calm calls one last serves) result did.outcome,
       after.1 ∙ ap (λ (z : Held). Some z) boot.0,
     )

@@ -6,7 +6,7 @@ use Rattle.host_traits.specs.declared.calls.Call.TheVariants.{BlockRead}
 use Rattle.host_traits.specs.declared.calls.Said.{Said}
 use Rattle.host_traits.specs.Held.{Held, serve}
 use Rattle.host_traits.specs.Told.{Exchanges, heard_of}
-use Rattle.host_traits.specs.Did.{IsIn, reads}
+use Rattle.host_traits.specs.Did.{IsIn}
 use Rattle.host_traits.proofs.Doing.{each_heard}
 use Rattle.guest_rules.proofs.Holding.{AreServed}
 use Rattle.sha_tree.specs.Tree.{ancestor}
@@ -14,7 +14,7 @@ use Rattle.verity_path.specs.Calls.{call_for, tree_byte}
 use Rattle.verity_path.specs.declared.device.Device.{Device}
 use Rattle.verity_path.specs.declared.walk.Layout.{Layout}
 use Rattle.verity_path.specs.declared.walk.Layout.TheVariants.{Parts}
-use Rattle.guest_rules.specs.Machine.{World, Moment, Turn, ItemRead, Request, request_of, read_of}
+use Rattle.guest_rules.specs.Machine.{Setting, State, World, Moment, Turn, ItemRead, Request, request_of, read_of}
 use Rattle.guest_rules.specs.ItemRow.{IsForItem}
 use Rattle.guest_rules.specs.Step.{Step, IsFor}
 use Rattle.guest_laws.specs.Fitting.{IsOfDisk, AreTrue}
@@ -30,10 +30,10 @@ same_item : (a b : Device) → Some a ≡ Some b → a ≡ b
 same_item a b e = cc
 
 -- the calls of a read are those for its item
-calls_of : (items : List Device) (request : Request) (r : ItemRead) (it : Device) (call : Call) → request ≡ read_of r → slice_get items r.item ≡ Some it → IsFor items request call → IsForItem it r call
-calls_of items request r it call e at f =
-    let g = subst (λ q. IsFor items q call) e f in
-    subst (λ (z : Device). IsForItem z r call) (same_item g.0 it (sym g.1 ∙ at)) g.2
+calls_of : (g : Setting) (s : State) (request : Request) (r : ItemRead) (it : Device) (call : Call) (given : List ℕ) → request ≡ read_of r → slice_get g.items r.item ≡ Some it → IsFor g s request call given → IsForItem it r call
+calls_of g s request r it call given e at f =
+    let there = subst (λ q. IsFor g s q call given) e f in
+    subst (λ (z : Device). IsForItem z r call) (same_item there.0 it (sym there.1 ∙ at)) there.2.0
 
 for_disk : (disk first tree : ℕ) (it : Device) (r : ItemRead) (call : Call) → it.layout ≡ Parts disk first tree → IsForItem it r call → IsOfDisk disk call
 for_disk disk first tree it r call is f =
@@ -42,10 +42,10 @@ for_disk disk first tree it r call is f =
     let here : IsOfDisk disk (call_for it.layout it.measure.blocks level i) = subst (λ (l : Layout). IsOfDisk disk (call_for l it.measure.blocks level i)) (sym is) (of_disk disk first tree it.measure.blocks level i) in
     subst (IsOfDisk disk) (sym f.path.call_is) here
 
-pub read_serves : (items : List Device) (world : World) (old : Moment) (turn : Turn) (new : Moment) (h : Held) (r : ItemRead) (it : Device) (disk first tree : ℕ)
-    → Step items world old turn new → request_of turn.frame ≡ read_of r → slice_get items r.item ≡ Some it → it.layout ≡ Parts disk first tree → AreTrue h disk (heard_of turn.own) → AreServed h (heard_of turn.own)
-read_serves items world old turn new h r it disk first tree step request at layout heard = record {
+pub read_serves : (g : Setting) (world : World) (old : Moment) (turn : Turn) (new : Moment) (h : Held) (r : ItemRead) (it : Device) (disk first tree : ℕ)
+    → Step g world old turn new → request_of turn.frame ≡ read_of r → slice_get g.items r.item ≡ Some it → it.layout ≡ Parts disk first tree → AreTrue h disk (heard_of turn.own) → AreServed h (heard_of turn.own)
+read_serves g world old turn new h r it disk first tree step request at layout heard = record {
   each = λ call said i.
-      let for = (each_heard (reads (IsFor items (request_of turn.frame))) turn.own step.calls call said i).1.0 in
-      ([], heard call said i (for_disk disk first tree it r call layout (calls_of items _ r it call request at for)));
+      let for = each_heard (IsFor g old.state (request_of turn.frame)) turn.own step.calls call said i in
+      ([], heard call said i (for_disk disk first tree it r call layout (calls_of g old.state _ r it call for.0 request at for.1)));
 }

@@ -15,7 +15,7 @@ use Rattle.verity_descriptor.specs.Spelling.{descriptor_bytes}
 use Rattle.ro_file.specs.Contents.{descriptor_of}
 use Rattle.guest_plan.specs.declared.plan.PlanLine.{PlanLine}
 use Rattle.guest_plan.specs.declared.plan.PlanLine.TheVariants as line
-use Rattle.guest_rules.specs.Machine.{World}
+use Rattle.guest_rules.specs.Machine.{World, Salted}
 use Rattle.guest_laws.specs.Fitting.{Fits, FitsBlob, FitsFile, FitsItem, item_line}
 use Rattle.guest_laws.proofs.Lines.{same_line}
 
@@ -35,8 +35,11 @@ module _ (content : List ℕ) (len : length content ≡ 8192) where
   abbrev pub plan : List PlanLine
   plan = line.Blob 1 measure ∷ line.File (97 ∷ []) 2 digest ∷ []
 
+  abbrev pub known : Salted
+  known = record { content = content; salt = [] }
+
   abbrev pub world : World
-  world k = if k == 0 then Some content else None
+  world = record { item = λ k. if k == 0 then Some content else None; file = λ n. if n == 2 then Some known else None }
 
   tree_in : (level i : ℕ) → 0 < level → level ≤ top (block_count (length content)) → i < pages_at (block_count (length content)) level
       → (verity_file content []).tree level i ≡ page content [] level i
@@ -62,7 +65,7 @@ module _ (content : List ℕ) (len : length content ≡ 8192) where
     holds = record { file = verity_file content []; there = refl; size_is = omega (arith, len); bytes = bytes_held; tree = tree_held };
   }
 
-  item_held : (k : ℕ) (l : PlanLine) → item_line plan k ≡ Some l → FitsItem held (world k) l
+  item_held : (k : ℕ) (l : PlanLine) → item_line plan k ≡ Some l → FitsItem held (world.item k) l
   item_held zero l at = subst (FitsItem held (Some content)) (same_line (line.Blob 1 measure) l at) blob_held
   item_held (suc k) l at = absurd cc
 
@@ -70,10 +73,10 @@ module _ (content : List ℕ) (len : length content ≡ 8192) where
   unfolding verity_file
   descriptor_held = refl
 
-  digest_held : FitsFile held 2 digest
+  digest_held : FitsFile held (Some known) 2 digest
   digest_held = record {
-    bytes = content;
-    salt = [];
+    known = known;
+    content_is = refl;
     holds = record {
       holds = record { file = verity_file content []; there = refl; size_is = refl; bytes = bytes_held; tree = tree_in };
       descriptor = descriptor_held;
@@ -84,10 +87,10 @@ module _ (content : List ℕ) (len : length content ≡ 8192) where
   }
 
   abbrev IsHeldFile : PlanLine → Type 0
-  IsHeldFile (line.File name file d) = FitsFile held file d
+  IsHeldFile (line.File name file d) = FitsFile held (world.file file) file d
   IsHeldFile other = Unit {0}
 
-  file_held : (k : ℕ) (name : List ℕ) (file : ℕ) (d : Digest) → slice_get plan k ≡ Some (line.File name file d) → FitsFile held file d
+  file_held : (k : ℕ) (name : List ℕ) (file : ℕ) (d : Digest) → slice_get plan k ≡ Some (line.File name file d) → FitsFile held (world.file file) file d
   file_held zero name file d at = let same = same_line (line.Blob 1 measure) (line.File name file d) at in absurd cc
   file_held (suc zero) name file d at = subst IsHeldFile (same_line (line.File (97 ∷ []) 2 digest) (line.File name file d) at) digest_held
   file_held (suc (suc k)) name file d at = absurd cc

@@ -1,35 +1,42 @@
 -- A session over an honest host that holds what the plan's lines need.
-use Rattle.std.proofs.Common.{◌≡◌, ◌+◌, ◌∙◌, ℕ, zero, suc, Bool, true, false, cond, List, [], ◌∷◌, ◌++◌, filter, length, Option, Some, None, refl, ap, sym, subst, inl, inr, ⊎_elim, append_assoc, append-nil, arith}
+use Rattle.std.proofs.Common.{◌≡◌, ◌+◌, ◌∙◌, ℕ, zero, suc, Bool, true, false, cond, List, [], ◌∷◌, ◌++◌, filter, length, ◌<◌, ◌≤◌, Option, Some, None, Result, Ok, Err, refl, ap, sym, subst, inl, inr, arith}
 use Rattle.std.specs.Prelude.{slice_get}
-use Rattle.std.specs.List.{AllByRecursion}
+use Rattle.mg_base.specs.declared.errno.Errno.{Errno}
 use Rattle.std.proofs.lemmas.List.{length-append}
 use Rattle.host_traits.specs.declared.calls.Call.{Call}
 use Rattle.host_traits.specs.declared.calls.TapeItem.{TapeItem}
 use Rattle.host_traits.specs.Held.{Held}
 use Rattle.host_traits.specs.Told.{Told, Exchanges, Made, HeldAfter, heard_of, failures_of}
-use Rattle.host_traits.specs.Did.{reads, trace_of}
+use Rattle.host_traits.specs.Did.{reads as reading, trace_of}
 use Rattle.host_traits.proofs.Doing.{each_so}
 use Rattle.sha_tree.specs.declared.measure.Measure.{Measure}
-use Rattle.sha_tree.specs.Tree.{ancestor}
+use Rattle.sha_tree.specs.Tree.{ancestor, page, pages_at, top}
+use Rattle.sha_tree.specs.Measured.{IsMeasured}
 use Rattle.verity_path.specs.declared.device.Device.{Device}
-use Rattle.verity_path.proofs.Pieces.{piece_left}
+use Rattle.ro_file.specs.Files.{MeasuredFile, layout_of}
+use Rattle.ro_file.specs.Contents.{IsContentOf}
+use Rattle.fuse_server.specs.Aims.{Aim, says, makes, reads, aim_of, number_of}
+use Rattle.fuse_server.specs.Rows.{IsForFuse}
+use Rattle.fuse_server.proofs.Keeping.{aim_file}
 use Rattle.guest_plan.specs.declared.plan.PlanLine.{PlanLine}
 use Rattle.guest_plan.specs.declared.plan.PlanLine.TheVariants as line
 use Rattle.guest_boot.specs.Booting.{AreServed, Booted, Boots, LineBoots, device_on, nothing}
 use Rattle.guest_boot.proofs.Makes.{device_is_item}
-use Rattle.guest_rules.specs.Machine.{World, Moment, Turn, Request, IsItem, request_of, read_of, unbuilt, moment}
-use Rattle.guest_rules.specs.Step.{Step, IsFor}
-use Rattle.guest_rules.specs.Run.{Run, IsRunHashed, IsWorld, calls_of}
-use Rattle.guest_rules.specs.Faithful.{HoldsDevice, IsDefined}
+use Rattle.guest_rules.specs.Machine.{Setting, State, World, Salted, Moment, Turn, Request, IsItem, request_of, message_of, read_of, unbuilt, moment}
+use Rattle.guest_rules.specs.Step.{Step, IsFor, trace}
+use Rattle.guest_rules.specs.Run.{Run, IsWorld, AreOpened, calls_of}
+use Rattle.guest_rules.specs.Faithful.{HoldsDevice, HoldsContent, IsDefined, IsReadDefined}
 use Rattle.guest_rules.proofs.Holding.{IsReading, reads_keep}
 use Rattle.guest_rules.proofs.Devices.{page_reads}
-use Rattle.guest_rules.proofs.Calm.{all_served}
+use Rattle.guest_rules.proofs.Serving.{all_served, files_served}
+use Rattle.guest_rules.proofs.Standing.{run_heard, world_first, world_at, known_by, files_kept, opened_at}
 use Rattle.guest_plan.proofs.Whole.{plan_takes}
-use Rattle.guest_cli.specs.Booted.{BootsOver}
+use Rattle.guest_cli.specs.Booted.{BootsOver, setting_of, first_state}
 use Rattle.guest_cli.specs.Serve.{before, Recorded}
+use Rattle.guest_cli.proofs.Opening.{opened_first}
 use Rattle.guest_boot.proofs.Plans.{plan_served}
-use Rattle.guest_laws.specs.Fitting.{Fits, FitsItem, item_line}
-use Rattle.guest_laws.specs.Sessions.{IsServedIn, SessionsAreServed, BootsAreServed}
+use Rattle.guest_laws.specs.Fitting.{Fits, FitsItem, HoldsReadOnly, item_line}
+use Rattle.guest_laws.specs.Sessions.{RunServed, SessionsAreServed, BootsAreServed}
 use Rattle.guest_laws.proofs.Asking.{AreHeld, boot_held, not_failed}
 use Rattle.guest_laws.proofs.Boots.{lines_call, fault_passes}
 use Rattle.guest_laws.proofs.Items.{served_line}
@@ -64,12 +71,12 @@ record IsKept (h : Held) (world : World) (items : List Device) (k : ℕ) : Type 
   at : slice_get items k ≡ Some it
   item : IsItem it
   content : List ℕ
-  content_is : world k ≡ Some content
+  content_is : world.item k ≡ Some content
   holds : HoldsDevice h it content
 
-module _ (lines : List PlanLine) (h : Held) (world : World) (booted heard : Exchanges) (served : AreServed lines) (new : Booted) (boots : Boots nothing lines booted new) (true_to : AreHeld h booted)
-    (w : IsWorld new.items world heard) where
-  line_kept : (l : PlanLine) (k : ℕ) → item_line lines k ≡ Some l → FitsItem h (world k) l → IsKept h world new.items k
+module _ (lines : List PlanLine) (h : Held) (world : World) (booted : Exchanges) (served : AreServed lines) (new : Booted) (boots : Boots nothing lines booted new) (true_to : AreHeld h booted)
+    (measured : (k : ℕ) (it : Device) (content : List ℕ) → slice_get new.items k ≡ Some it → world.item k ≡ Some content → IsMeasured it.measure content) where
+  line_kept : (l : PlanLine) (k : ℕ) → item_line lines k ≡ Some l → FitsItem h (world.item k) l → IsKept h world new.items k
   line_kept (line.Blob file m) k at f =
       let said = served_line lines k (line.Blob file m) served at in
       let i = device_is_item file m said.1 in
@@ -82,80 +89,105 @@ module _ (lines : List PlanLine) (h : Held) (world : World) (booted heard : Exch
         holds = f.holds;
       }
   line_kept (line.Apk disk apk idsig how) k at f =
-      let a = apk_kept lines booted heard new world h k f.bytes disk apk idsig how f.measure boots served at f.content_is w f.holds (λ call said i of. true_to call said i) in
+      let a = apk_kept lines booted new world h k f.bytes disk apk idsig how f.measure boots served at f.content_is measured f.holds (λ call said i of. true_to call said i) in
       record { it = a.it; at = a.at; item = a.item; content = f.bytes; content_is = f.content_is; holds = a.holds }
   line_kept other k at f = absurd f
 
 -- ---- a run over what is held
 
-is_read : (items : List Device) (request : Request) (call : Call) → IsFor items request call → IsReading call
-is_read items (read_of r) call f =
-    let g = f.2 in
-    subst IsReading (sym g.path.call_is) (page_reads f.0.layout f.0.measure.blocks g.path.level (ancestor g.block g.path.level))
-is_read items unbuilt call f = absurd f
+is_read : (g : Setting) (s : State) (request : Request) (call : Call) (given : List ℕ) → IsFor g s request call given → reading IsReading call given
+is_read g s (message_of m) call given f = message_read (aim_of s.fuse m) f where
+  message_read : (aim : Result Aim Errno) → reading (IsForFuse aim) call given → reading IsReading call given
+  message_read (Err e) f = absurd f.0
+  message_read (Ok (says a)) f = absurd f.0
+  message_read (Ok (makes a)) f = absurd f.0
+  message_read (Ok (reads file offset size)) f =
+      let p = f.0.path in
+      (subst IsReading (sym p.call_is) (page_reads (layout_of file) file.measure.blocks p.level (ancestor f.0.block p.level)), f.1)
+is_read g s (read_of r) call given f =
+    let it = f.0 in
+    let p = f.2.0.path in
+    (subst IsReading (sym p.call_is) (page_reads it.layout it.measure.blocks p.level (ancestor f.2.0.block p.level)), f.2.1)
+is_read g s unbuilt call given f = absurd f
 
 -- a turn changes nothing that is held
-step_keeps : (items : List Device) (world : World) (old : Moment) (turn : Turn) (new : Moment) (h : Held) → Step items world old turn new → old.told.held ≡ Some h → new.told.held ≡ Some h
-step_keeps items world old turn new h step told =
+step_keeps : (g : Setting) (world : World) (old : Moment) (turn : Turn) (new : Moment) (h : Held) → Step g world old turn new → old.told.held ≡ Some h → new.told.held ≡ Some h
+step_keeps g world old turn new h step told =
     let after = subst (λ o. HeldAfter old.told.honest o turn.own new.told.held) told step.talked.held in
     let keeps = reads_keep old.told.honest turn.own h after.0 after.2
-    (each_so (reads (IsFor items (request_of turn.frame))) (reads IsReading) turn.own (λ call given p. (is_read items (request_of turn.frame) call p.0, p.1)) step.calls) in
+    (each_so (IsFor g old.state (request_of turn.frame)) (reading IsReading) turn.own (is_read g old.state (request_of turn.frame)) step.calls) in
     after.1 ∙ ap (λ (z : Held). Some z) keeps.0
 
 some_is : (a b : List ℕ) → Some a ≡ Some b → a ≡ b
 some_is a b e = cc
 
-module _ (items : List Device) (world : World) where
-  world_less : (xs ys : Exchanges) → IsWorld items world (xs ++ ys) → IsWorld items world xs
-  world_less xs ys w = record {
-    measured = w.measured;
-    no_clash = λ x y hx hy. w.no_clash x y (more x hx) (more y hy);
-  } where
-    more : (x : List ℕ) → IsRunHashed items world xs x → IsRunHashed items world (xs ++ ys) x
-    more x e = ⊎_elim (λ a. inl (a.0, a.1, a.2, a.3, piece_left xs ys a.3 a.4, a.5)) (λ b. inr b) e
+-- a file that is held as its line needs it has the opened file's content
+content_held : (h : Held) (f : MeasuredFile) (c : Salted) → IsContentOf f c.content c.salt → HoldsReadOnly h f.file f.digest c.content c.salt → HoldsContent h f c.content
+content_held h f c is r =
+    let holds = r.holds in
+    record {
+      file = holds.file;
+      there = holds.there;
+      size_is = is.size;
+      bytes = holds.bytes;
+      tree = λ level i some low within.
+          holds.tree level i some (subst (λ (n : ℕ). level ≤ top n) (sym is.tree.blocks) low) (subst (λ (n : ℕ). i < pages_at n level) (sym is.tree.blocks) within)
+          ∙ ap (λ (s : List ℕ). page c.content s level i) (sym is.salt_is);
+    }
 
-  run_heard : (old : Moment) (turns : List Turn) (new : Moment) → Run items world old turns new → (more : Exchanges) × (new.heard ≡ old.heard ++ more)
-  run_heard old [] new e = ([], ap (λ (m : Moment). m.heard) (sym e) ∙ sym (append-nil old.heard))
-  run_heard old (turn ∷ turns) new r =
-      let rest = run_heard r.0 turns new r.3 in
-      (heard_of turn.own ++ rest.0, rest.1 ∙ ap (λ (x : Exchanges). x ++ rest.0) r.2.heard ∙ append_assoc old.heard (heard_of turn.own) rest.0)
+module _ (g : Setting) (world : World) (lines : List PlanLine) (h : Held) (kept : (k : ℕ) (l : PlanLine) → item_line lines k ≡ Some l → FitsItem h (world.item k) l → IsKept h world g.items k) where
+  run_served : (turns : List Turn) (old new : Moment) → Run g world old turns new → old.told.held ≡ Some h → old.told.honest ≡ true → AreOpened old.state old.heard → IsWorld g old.state world new.heard
+      → old.told.scarce ≡ true → RunServed lines h g world old turns new
+  run_served [] old new run told honest opened w scarce = run
+  run_served (turn ∷ turns) old new run told honest opened w scarce =
+      let mid : Moment = run.0 in
+      let step : Step g world old turn mid = run.2 in
+      let later = run_heard g world mid turns new run.3 in
+      let here : IsWorld g old.state world mid.heard = world_first g old.state world mid.heard later.0 (subst (λ (x : Exchanges). IsWorld g old.state world x) later.1 w) in
+      let wants : mid.told.scarce ≡ true = step.talked.scarce ∙ scarce in
+      let same = files_kept g world (trace old turn mid) (request_of turn.frame) old.state mid.state turn.sent turn.cause step.row in (
+        mid,
+        run.1,
+        step,
+        λ r l content request at fits is.
+            let d = kept r.item l at fits in
+            let served = (all_served g world old turn mid h r d.it d.content step request d.at d.item d.content_is here told d.holds (inr honest)).0 in
+            let same : d.content ≡ content = some_is d.content content (sym d.content_is ∙ is) in
+            subst (λ (z : List ℕ). IsDefined r z true turn.sent turn.cause) same (subst (λ (b : Bool). IsDefined r d.content b turn.sent turn.cause) wants served),
+        λ m f offset size c request aim is holds.
+            let there = aim_file old.state.fuse m f offset size aim in
+            let known = known_by g old.state world old.heard mid.heard (heard_of turn.own) step.heard opened here in
+            let served = (files_served g world old turn mid h m there.0 f offset size c step request aim there.1 is opened here told
+            (content_held h f c (known.files there.0 f c there.1 is) holds) (inr honest)).0 in
+            subst (λ (b : Bool). IsReadDefined (number_of m) offset size c.content b turn.sent turn.cause) wants served,
+        run_served turns mid new run.3 (step_keeps g world old turn mid h step told) (step.talked.honest ∙ honest)
+            (opened_at old.state mid.state old.heard mid.heard (heard_of turn.own) same step.heard opened) (world_at g old.state mid.state world new.heard same w) wants,
+      )
 
-  module _ (lines : List PlanLine) (h : Held) (kept : (k : ℕ) (l : PlanLine) → item_line lines k ≡ Some l → FitsItem h (world k) l → IsKept h world items k) where
-    run_served : (turns : List Turn) (old new : Moment) → Run items world old turns new → old.told.held ≡ Some h → old.told.honest ≡ true → IsWorld items world new.heard → old.told.scarce ≡ true
-        → AllByRecursion (IsServedIn lines world h) turns
-    run_served [] old new run told honest w scarce = tt
-    run_served (turn ∷ turns) old new run told honest w scarce =
-        let mid : Moment = run.0 in
-        let step : Step items world old turn mid = run.2 in
-        let later = run_heard mid turns new run.3 in
-        let here : IsWorld items world mid.heard = world_less mid.heard later.0 (subst (λ (x : Exchanges). IsWorld items world x) later.1 w) in
-        let wants : mid.told.scarce ≡ true = step.talked.scarce ∙ scarce in (
-          λ r l content request at fits is.
-              let d = kept r.item l at fits in
-              let served = (all_served items world old turn mid h r d.it d.content step request d.at d.item d.content_is here told d.holds (inr honest)).0 in
-              let same : d.content ≡ content = some_is d.content content (sym d.content_is ∙ is) in
-              subst (λ (z : List ℕ). IsDefined r z true turn.sent turn.cause) same (subst (λ (b : Bool). IsDefined r d.content b turn.sent turn.cause) wants served),
-          run_served turns mid new run.3 (step_keeps items world old turn mid h step told) (step.talked.honest ∙ honest) w wants,
-        )
+module _ (lines : List PlanLine) (h : Held) (mid : Told) (booted : List Made) (items : List Device) (opened : List MeasuredFile) (entropy : List ℕ) (calls : List Call) (records : List TapeItem) (finish : Told) (turns : List Turn) (world : World) where
+  abbrev first : State
+  first = first_state lines opened entropy
 
-module _ (lines : List PlanLine) (h : Held) (mid : Told) (booted : List Made) (items : List Device) (entropy : List ℕ) (calls : List Call) (records : List TapeItem) (finish : Told) (turns : List Turn) (world : World) where
-  turns_served : AreServed lines → BootsOver lines (before h) mid booted items → Recorded items entropy booted mid calls records finish turns
-      → IsWorld items world (heard_of booted ++ heard_of (calls_of turns)) → AllByRecursion (IsServedIn lines world h) turns
-  turns_served served over r w =
+  turns_served : AreServed lines → BootsOver lines (before h) mid booted items opened → AreOpened first (heard_of booted) → (r : Recorded (setting_of items) first booted mid calls records finish turns)
+      → IsWorld (setting_of items) first world (heard_of booted ++ heard_of (calls_of turns))
+      → RunServed lines h (setting_of items) world (moment first mid (heard_of booted)) turns (moment r.state finish (heard_of booted ++ heard_of (calls_of turns)))
+  turns_served served over there r w =
       let opens = over.opens in
       let told = over.talked.held in
       let boot = boot_held true booted h told.0 told.2 (lines_call lines booted over.calls) in
       let mid_held : mid.held ≡ Some h = told.1 ∙ ap (λ (z : Held). Some z) boot.0 in
       let all : Exchanges = heard_of booted ++ heard_of (calls_of turns) in
-      let kept : (k : ℕ) (l : PlanLine) → item_line lines k ≡ Some l → FitsItem h (world k) l → IsKept h world items k = λ k l at fits.
-      line_kept lines h world (heard_of booted) all served (record { tables = opens.tables; items = items; files = over.files }) opens.boots boot.1 w l k at fits in
-      run_served items world lines h kept turns (moment (record { entropy = entropy }) mid (heard_of booted)) (moment r.state finish all) (r.run world w) mid_held over.talked.honest w over.talked.scarce
+      let kept : (k : ℕ) (l : PlanLine) → item_line lines k ≡ Some l → FitsItem h (world.item k) l → IsKept h world items k = λ k l at fits.
+      line_kept lines h world (heard_of booted) served (record { tables = opens.tables; items = items; files = opened }) opens.boots boot.1 w.items l k at fits in
+      run_served (setting_of items) world lines h kept turns (moment first mid (heard_of booted)) (moment r.state finish all) (r.run world w) mid_held over.talked.honest there w over.talked.scarce
 
 pub sessions_served : SessionsAreServed
 sessions_served files plan store entropy old new ended s turns world r w =
     let planned = s.made.planned in
-    let served = plan_served planned.text planned.plan (plan_takes planned.text planned.plan planned.is) in
-    turns_served planned.plan.lines s.made.stock.held s.mid s.booted s.items s.bytes s.calls s.records s.finish turns world served s.boots r w
+    let grammar = plan_takes planned.text planned.plan planned.is in
+    let served = plan_served planned.text planned.plan grammar in
+    let there = opened_first planned.text planned.plan (heard_of s.booted) s.items s.opened s.bytes grammar s.boots.opens in
+    turns_served planned.plan.lines s.made.stock.held s.mid s.booted s.items s.opened s.bytes s.calls s.records s.finish turns world served s.boots there r w
 
 -- ---- a boot that failed
 

@@ -15,10 +15,11 @@ use Rattle.guest_plan.specs.declared.plan.How.{How}
 use Rattle.guest_plan.specs.declared.plan.PlanLine.{PlanLine}
 use Rattle.guest_plan.specs.declared.plan.PlanLine.TheVariants as line
 use Rattle.guest_boot.specs.Booting.{AreServed, Booted, Boots, nothing}
-use Rattle.guest_rules.specs.Machine.{World, Moment, Turn, ItemRead, Request, State, IsItem, read_of, request_of}
+use Rattle.guest_rules.specs.Machine.{Setting, World, Moment, Turn, ItemRead, Request, State, IsItem, read_of, request_of}
 use Rattle.guest_rules.specs.ItemRow.{ItemRow, no_item, too_large, served, blamed, no_memory}
 use Rattle.guest_rules.specs.Step.{Step, Row, trace}
-use Rattle.guest_rules.specs.Run.{IsWorld}
+use Rattle.sha_tree.specs.Measured.{IsMeasured}
+use Rattle.guest_cli.specs.Booted.{setting_of}
 use Rattle.guest_rules.specs.Faithful.{HoldsDevice}
 use Rattle.guest_rules.proofs.Serving.{defined_over}
 use Rattle.guest_laws.specs.Fitting.{ApkReadsAreServed, AreTrue, HasFailed, HoldsApk, item_line}
@@ -35,19 +36,19 @@ pub record IsApkKept (h : Held) (disk : ℕ) (items : List Device) (k : ℕ) (m 
   pub item : IsItem it
   pub holds : HoldsDevice h it content
 
-pub apk_kept : (lines : List PlanLine) (booted heard : Exchanges) (new : Booted) (world : World) (h : Held) (k : ℕ) (content : List ℕ) (disk : ℕ) (apk idsig : List ℕ) (how : How) (m : Measure)
-    → Boots nothing lines booted new → AreServed lines → item_line lines k ≡ Some (line.Apk disk apk idsig how) → world k ≡ Some content
-    → IsWorld new.items world heard → HoldsApk h disk apk idsig how m content → AreTrue h disk booted → IsApkKept h disk new.items k m content
-apk_kept lines booted heard new world h k content disk apk idsig how m boots lines_served at_k is w holds booted_true =
+pub apk_kept : (lines : List PlanLine) (booted : Exchanges) (new : Booted) (world : World) (h : Held) (k : ℕ) (content : List ℕ) (disk : ℕ) (apk idsig : List ℕ) (how : How) (m : Measure)
+    → Boots nothing lines booted new → AreServed lines → item_line lines k ≡ Some (line.Apk disk apk idsig how) → world.item k ≡ Some content
+    → ((k : ℕ) (it : Device) (content : List ℕ) → slice_get new.items k ≡ Some it → world.item k ≡ Some content → IsMeasured it.measure content) → HoldsApk h disk apk idsig how m content → AreTrue h disk booted → IsApkKept h disk new.items k m content
+apk_kept lines booted new world h k content disk apk idsig how m boots lines_served at_k is measured holds booted_true =
     let found = at_line h disk holds.table (true_table h disk apk idsig how m content holds) apk idsig how lines nothing new booted k k boots (knows_none disk holds.table) booted_true at_k (omega arith) in
     let it : Device = found.boots.device in
-    let held = boots_held h disk apk idsig how m content holds found.old found.new found.own found.boots found.known found.heard (w.measured k it content found.is is) in
+    let held = boots_held h disk apk idsig how m content holds found.old found.new found.own found.boots found.known found.heard (measured k it content found.is is) in
     let said = served_line lines k (line.Apk disk apk idsig how) lines_served at_k in
     record {
       it = it;
       at = found.is;
       held = held;
-      item = item_is h disk it m content held (blocks_in holds.first how holds.head m said.3 holds.measure) (w.measured k it content found.is is);
+      item = item_is h disk it m content held (blocks_in holds.first how holds.head m said.3 holds.measure) (measured k it content found.is is);
       holds = subst (λ (l : Layout). HoldsAt h l it.measure content) (sym held.layout) held.holds;
     }
 
@@ -62,18 +63,18 @@ row_fails items world t r _ _ (blamed it (cause.Short asked got) at small blame 
 row_fails items world t r _ _ (blamed it (cause.Failed faults) at small blame order right) = inr (blame.failed, refl, faults, refl)
 row_fails items world t r _ _ (no_memory it at small scarce order right) = inl scarce.failed
 
-turn_fails : (items : List Device) (world : World) (old : Moment) (turn : Turn) (new : Moment) (r : ItemRead) → Step items world old turn new
+turn_fails : (g : Setting) (world : World) (old : Moment) (turn : Turn) (new : Moment) (r : ItemRead) → Step g world old turn new
     → request_of turn.frame ≡ read_of r → (failures_of turn.own ≡ 0) ⊎ HasFailed turn
-turn_fails items world old turn new r step request =
-    let row : Row items world (trace old turn new) (read_of r) old.state new.state turn.sent turn.cause =
-    subst (λ (q : Request). Row items world (trace old turn new) q old.state new.state turn.sent turn.cause) request step.row in
+turn_fails g world old turn new r step request =
+    let row : Row g world (trace old turn new) (read_of r) old.state new.state turn.sent turn.cause =
+    subst (λ (q : Request). Row g world (trace old turn new) q old.state new.state turn.sent turn.cause) request step.row in
     ⊎_elim (λ none. inl none) (λ f. inr (record { one = f.0; sent = f.1; faults = f.2; cause = f.3 }))
-    (row_fails items world (trace old turn new) r turn.sent turn.cause row.1)
+    (row_fails g.items world (trace old turn new) r turn.sent turn.cause row.1)
 
 pub apk_reads_served : ApkReadsAreServed
 apk_reads_served lines booted items files world old turn new h r content disk apk idsig how m opens lines_served step request at_k is w holds booted_true read_true =
-    let a = apk_kept lines booted new.heard (record { tables = opens.tables; items = items; files = files }) world h r.item content disk apk idsig how m opens.boots lines_served at_k is w holds booted_true in
+    let a = apk_kept lines booted (record { tables = opens.tables; items = items; files = files }) world h r.item content disk apk idsig how m opens.boots lines_served at_k is w.items holds booted_true in
     let held = a.held in
-    let serves = read_serves items world old turn new h r a.it disk held.first held.tree step request a.at held.layout read_true in
-    ⊎_elim (λ none. inl (defined_over items world old turn new h r a.it content step request a.at a.item is w serves a.holds none)) (λ f. inr f)
-    (turn_fails items world old turn new r step request)
+    let serves = read_serves (setting_of items) world old turn new h r a.it disk held.first held.tree step request a.at held.layout read_true in
+    ⊎_elim (λ none. inl (defined_over (setting_of items) world old turn new h r a.it content step request a.at a.item is w serves a.holds none)) (λ f. inr f)
+    (turn_fails (setting_of items) world old turn new r step request)

@@ -28,11 +28,11 @@ use Rattle.ro_file.specs.Contents.{descriptor_of, IsFileMeasured}
 use Rattle.guest_boot.specs.Finding.{parts_in}
 use Rattle.guest_boot.specs.Booting.{AreServed, measure_in}
 use Rattle.session_frames.specs.Replies.{sent_code}
-use Rattle.guest_rules.specs.Machine.{World, Moment, Turn, ItemRead, request_of, read_of}
+use Rattle.guest_rules.specs.Machine.{World, Salted, Moment, Turn, ItemRead, request_of, read_of}
 use Rattle.guest_rules.specs.Step.{Step}
 use Rattle.guest_rules.specs.Run.{IsWorld}
 use Rattle.guest_rules.specs.Faithful.{IsDefined}
-use Rattle.guest_cli.specs.Booted.{Opens}
+use Rattle.guest_cli.specs.Booted.{Opens, setting_of}
 
 -- ---- what a disk holds
 
@@ -93,11 +93,11 @@ pub record FitsApk (h : Held) (content : Option (List ℕ)) (disk : ℕ) (apk id
   pub measured : IsMeasured measure bytes
   pub holds : HoldsApk h disk apk idsig how measure bytes
 
--- what is held has a measured content at a `file` line
-pub record FitsFile (h : Held) (number : ℕ) (digest : Digest) : Type 0 where
-  pub bytes : List ℕ
-  pub salt : List ℕ
-  pub holds : HoldsReadOnly h number digest bytes salt
+-- what is held has the measured content of a file at its `file` line
+pub record FitsFile (h : Held) (content : Option Salted) (number : ℕ) (digest : Digest) : Type 0 where
+  pub known : Salted
+  pub content_is : content ≡ Some known
+  pub holds : HoldsReadOnly h number digest known.content known.salt
 
 -- what is held has what a line of an item needs, and the world its content
 abbrev pub FitsItem : Held → Option (List ℕ) → PlanLine → Type 0
@@ -105,11 +105,11 @@ FitsItem h content (line.Blob file m) = FitsBlob h content file m
 FitsItem h content (line.Apk disk apk idsig how) = FitsApk h content disk apk idsig how
 FitsItem h content other = ⊥
 
--- What is held has what each line of a plan needs, and the world each item's content.
+-- What is held has what each line of a plan needs, and the world each item's and each file's content.
 pub record Fits (lines : List PlanLine) (world : World) (h : Held) : Type 0 where
-  pub items : (k : ℕ) (l : PlanLine) → item_line lines k ≡ Some l → FitsItem h (world k) l
+  pub items : (k : ℕ) (l : PlanLine) → item_line lines k ≡ Some l → FitsItem h (world.item k) l
   pub files : (k : ℕ) (name : List ℕ) (file : ℕ) (digest : Digest) → slice_get lines k ≡ Some (line.File name file digest)
-      → FitsFile h file digest
+      → FitsFile h (world.file file) file digest
 
 -- ---- what was heard of it
 
@@ -137,8 +137,8 @@ pub record HasFailed (turn : Turn) : Type 0 where
 abbrev pub ApkReadsAreServed : Type 0
 ApkReadsAreServed = (lines : List PlanLine) (booted : Exchanges) (items : List Device) (files : List MeasuredFile) (world : World) (old : Moment) (turn : Turn) (new : Moment)
     (h : Held) (r : ItemRead) (content : List ℕ) (disk : ℕ) (apk idsig : List ℕ) (how : How) (m : Measure)
-    → Opens lines booted items files → AreServed lines → Step items world old turn new → request_of turn.frame ≡ read_of r
-    → item_line lines r.item ≡ Some (line.Apk disk apk idsig how) → world r.item ≡ Some content
-    → IsWorld items world new.heard → HoldsApk h disk apk idsig how m content
+    → Opens lines booted items files → AreServed lines → Step (setting_of items) world old turn new → request_of turn.frame ≡ read_of r
+    → item_line lines r.item ≡ Some (line.Apk disk apk idsig how) → world.item r.item ≡ Some content
+    → IsWorld (setting_of items) old.state world new.heard → HoldsApk h disk apk idsig how m content
     → AreTrue h disk booted → AreTrue h disk (heard_of turn.own)
     → IsDefined r content new.told.scarce turn.sent turn.cause ⊎ HasFailed turn

@@ -15,7 +15,7 @@ use Rattle.guest_laws.specs.Fitting.{Fits}
 -- Over a host that holds what each line of the plan needs, where no call of boot failed or the host is honest, boot opens all
 -- lines, or there was no memory; and what is held stays.
 abbrev pub BootsPass : Type 0
-BootsPass = (lines : List PlanLine) (numbers : List ℕ) (world : World) (old new : Told) (result : Result Machine BootFault) (h : Held)
-    → Did (IsForLines lines) (most_of lines) old new (BootedOutcome lines numbers result)
+BootsPass = (lines : List PlanLine) (numbers entropy : List ℕ) (world : World) (old new : Told) (result : Result Machine BootFault) (h : Held)
+    → Did (IsForLines lines) (most_of lines) old new (BootedOutcome lines numbers entropy result)
     → old.held ≡ Some h → Calm old new → Fits lines world h
     → IfErr result (λ fault. fault.why ≡ Memory) × (new.held ≡ Some h)

@@ -1,4 +1,4 @@
--- A device that is held: the answer to the call for a page is as long as asked, and holds the content's page.
+-- A content that is held: the answer to the call for a page is as long as asked, and holds the content's page.
 use Rattle.std.proofs.Common.{◌≡◌, ℕ, [], ◌-◌, ◌*◌, ◌+◌, ◌/◌, ◌%◌, ◌<◌, ◌≤◌, min, List, length, sym, ◌∙◌, arith, Some, true, false}
 use Rattle.std.specs.Prelude.{◌==◌, if◌then◌else◌}
 use Rattle.host_traits.specs.declared.calls.Call.TheVariants.{BlockRead, FileRead, TreeRead}
@@ -6,7 +6,7 @@ use Rattle.host_traits.specs.declared.calls.Said.{Said}
 use Rattle.host_traits.specs.declared.calls.Said.TheVariants.{Bytes}
 use Rattle.host_traits.specs.Held.{Held, serve}
 use Rattle.sha_tree.specs.declared.measure.Measure.{Measure}
-use Rattle.sha_tree.specs.Measured.{IsMeasured}
+use Rattle.sha_tree.specs.Measured.{HasTree}
 use Rattle.sha_tree.specs.Tree.{page, pages_at, top}
 use Rattle.verity_path.specs.Calls.{call_for, asked_for, piece_for, tree_byte}
 use Rattle.verity_path.specs.Holding.{HoldsAt}
@@ -32,11 +32,11 @@ pub record HasPage (layout : Layout) (m : Measure) (content : List ℕ) (level i
   pub len : length bytes ≡ asked_for layout m.blocks level i
   pub piece : piece_for layout m.blocks level i bytes ≡ page content m.salt level i
 
--- the device's page at its place, as the walk has it
-module _ (h : Held) (m : Measure) (content : List ℕ) (measured : IsMeasured m content) (limit : m.blocks ≤ 1048576) (layout : Layout) (level i : ℕ)
+-- the page at its place, as the walk has it
+module _ (h : Held) (m : Measure) (content : List ℕ) (tree : HasTree m content) (limit : m.blocks ≤ 1048576) (layout : Layout) (level i : ℕ)
     (holds : HoldsAt h layout m content) (low : level ≤ top m.blocks) (within : i < pages_at m.blocks level) where
   walked : WalkedPage h layout m content level i
-  walked = page_walked h m content (rw measured.size (omega arith)) limit layout level i holds low within
+  walked = page_walked h m content tree.blocks limit layout level i holds low within
 
   -- the call for it can be served
   pub page_serves : (said : Said) × (serve h (call_for layout m.blocks level i) [] ≡ Some (said, h))

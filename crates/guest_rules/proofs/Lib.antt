@@ -3,6 +3,5 @@ pub mod Runs
 pub mod Holding
 pub mod Devices
 pub mod Serving
-pub mod Requests
 pub mod Exact
-pub mod Calm
+pub mod Reading

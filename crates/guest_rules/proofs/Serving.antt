@@ -1,48 +1,45 @@
--- A read of an item over a faithful host that holds it.
-use Rattle.std.proofs.Common.{◌≡◌, ℕ, ◌<◌, List, length, take, drop, ap, sym, ◌∙◌, subst, arith, Option, Some, None}
+-- Reads over a faithful host that holds what they are of: each has its defined reply, and over an honest host no call of it fails.
+use Rattle.std.proofs.Common.{◌≡◌, ℕ, ◌+◌, ◌*◌, ◌/◌, ◌<◌, ◌≤◌, List, [], length, take, drop, ap, sym, ◌∙◌, subst, arith, Option, Some, None, Result, Ok, Err, inl, inr}
 use Rattle.std.specs.Prelude.{slice_get}
 use Rattle.std.proofs.lemmas.Option.{slice_get_within}
+use Rattle.mg_base.specs.declared.errno.Errno.{Errno}
+use Rattle.mg_base.specs.declared.errno.Errno.TheVariants.{Eio, Enomem}
 use Rattle.host_traits.specs.declared.calls.Call.{Call}
 use Rattle.host_traits.specs.declared.calls.Said.{Said}
-use Rattle.host_traits.specs.declared.calls.Said.TheVariants.{Bytes}
-use Rattle.host_traits.specs.Held.{Held, serve}
-use Rattle.host_traits.specs.Told.{Exchanges, heard_of, failures_of, kind_of, kind_bytes}
-use Rattle.host_traits.specs.Did.{IsIn, reads, Trace, IsShort}
-use Rattle.host_traits.proofs.Doing.{each_heard}
-use Rattle.session_frames.specs.Replies.{Sent}
-use Rattle.sha_tree.specs.Tree.{ancestor}
-use Rattle.sha_tree.specs.Measured.{IsMeasured}
+use Rattle.host_traits.specs.Held.{Held}
+use Rattle.host_traits.specs.Told.{Told, Exchanges, Made, heard_of, failures_of}
+use Rattle.host_traits.specs.Did.{IsIn, Each, reads as reading, Trace}
+use Rattle.host_traits.proofs.Doing.{each_so, each_heard}
+use Rattle.session_frames.specs.Replies.{Sent, message_sent}
+use Rattle.sha_tree.specs.Tree.{block_count}
+use Rattle.sha_tree.specs.Measured.{IsMeasured, HasTree}
 use Rattle.sha_tree.specs.Path.{NoClash}
-use Rattle.sha_tree.proofs.Levels.{ancestor-page}
 use Rattle.sha_tree.proofs.Sound.{measured_tree}
-use Rattle.verity_path.specs.Calls.{call_for, asked_for}
 use Rattle.verity_path.specs.Pieces.{IsHashed}
-use Rattle.verity_path.specs.Walk.{IsMismatch}
-use Rattle.verity_path.proofs.Order.{last_in}
-use Rattle.verity_path.specs.Range.{IsSlice, IsReadBlame}
-use Rattle.verity_path.specs.declared.states.Mismatch.{Mismatch}
+use Rattle.verity_path.specs.Range.{IsForRead, IsSlice, IsCut, IsReadBlame, end_of}
+use Rattle.verity_path.proofs.Ranges.{cut_content}
 use Rattle.verity_path.specs.declared.device.Cause.{Cause}
-use Rattle.verity_path.specs.declared.device.Cause.TheVariants.{Mismatch as OfMismatch, Short, Failed}
 use Rattle.verity_path.specs.declared.device.Device.{Device}
-use Rattle.verity_path.proofs.Asking.{kind_asked}
-use Rattle.verity_path.proofs.Blaming.{mismatch_lies}
-use Rattle.guest_rules.specs.Machine.{World, State, Moment, Turn, ItemRead, Request, read_of, request_of, IsItem, size_of}
+use Rattle.ro_file.specs.Files.{MeasuredFile, layout_of}
+use Rattle.ro_file.specs.Contents.{IsContentOf}
+use Rattle.fuse_codec.specs.Message.{Message, Bad}
+use Rattle.fuse_codec.specs.Reply.{Answer, refused, bytes_out}
+use Rattle.fuse_server.specs.Aims.{Aim, says, makes, reads, aim_of, number_of}
+use Rattle.fuse_server.specs.Rows.{FuseRow, ReadRow, read_bytes, read_blamed, read_no_room, IsForFuse, IsFileRead}
+use Rattle.guest_rules.specs.Machine.{Setting, World, Salted, State, Moment, Turn, ItemRead, Request, message_of, read_of, request_of, IsItem, size_of}
 use Rattle.guest_rules.specs.ItemRow.{IsForItem, ItemRow, no_item, too_large, served, blamed, no_memory}
+use Rattle.guest_rules.specs.MessageRow.{MessageRow}
 use Rattle.guest_rules.specs.Step.{Step, IsFor, Row, trace}
-use Rattle.guest_rules.specs.Run.{IsWorld}
-use Rattle.guest_rules.specs.Faithful.{HoldsDevice, IsDefined, over_limit, whole, no_room}
-use Rattle.guest_rules.proofs.Standing.{item_hashed, world_last}
+use Rattle.guest_rules.specs.Run.{IsWorld, IsFile, AreOpened}
+use Rattle.guest_rules.specs.Faithful.{HoldsDevice, HoldsContent, IsDefined, over_limit, whole, no_room, IsReadDefined, slice, no_memory as short_of_memory, IsCalm, ReadsAreServed, FileReadsAreServed}
+use Rattle.guest_rules.proofs.Standing.{Known, item_apart, file_apart, readable, world_last, known_last, known_by}
+use Rattle.guest_rules.proofs.Reading.{IsInside, not_blamed, after, stays, calm_by}
 use Rattle.guest_rules.proofs.Holding.{AreServed}
-use Rattle.guest_rules.proofs.Devices.{page_held}
-
-bytes_is : (a b : List ℕ) → Bytes a ≡ Bytes b → a ≡ b
-bytes_is a b e = cc
-
-same_size : (a b : ℕ) → kind_bytes a ≡ kind_bytes b → a ≡ b
-same_size a b e = cc
 
 same_item : (a b : Device) → Some a ≡ Some b → a ≡ b
 same_item a b e = cc
+
+-- ---- reads of items
 
 -- the bytes of a read in a world with the content
 slice_is : (o : Option (List ℕ)) (content : List ℕ) (t : Trace) (it : Device) (r : ItemRead) (bytes : List ℕ) → o ≡ Some content
@@ -52,73 +49,111 @@ slice_is (Some other) content t it r bytes is s =
     let same : content ≡ other = cc in
     ap (λ x. take r.size (drop r.offset x)) same ∙ sym s
 
-module _ (items : List Device) (world : World) (t : Trace) (h : Held) (r : ItemRead) (it : Device) (content : List ℕ) (at : slice_get items r.item ≡ Some it) (item : IsItem it) (is : world r.item ≡ Some content)
-    (w : IsWorld items world t.heard) (held : AreServed h t.own) (holds : HoldsDevice h it content) (for : (call : Call) (said : Said) → IsIn call said t.own → IsForItem it r call) where
-  measured : IsMeasured it.measure content
-  measured = w.measured r.item it content at is
-
-  apart : NoClash (IsHashed t.heard content it.measure.salt)
-  apart x y hx hy = w.no_clash x y (item_hashed items world t.heard r.item it content at is x hx) (item_hashed items world t.heard r.item it content at is y hy)
-
-  -- no page differs
-  not_mismatch : (x : Mismatch) → IsMismatch it.layout it.measure t x → ⊥
-  not_mismatch x m =
-      let answer = held.each (call_for it.layout it.measure.blocks x.level x.index) (Bytes m.bytes) (last_in _ _ t.own m.own) in
-      let low = m.expected.level_is in
-      let page = page_held h it.measure content measured item.most it.layout x.level x.index holds (omega (arith, low)) m.expected.index answer.0 (Bytes m.bytes) answer.1 in
-      let bytes : page.bytes ≡ m.bytes = bytes_is page.bytes m.bytes (sym page.said_is) in
-      let least = item.least in
-      mismatch_lies it.layout it.measure t x content (measured_tree it.measure content measured) (omega (arith, least)) apart m (rw bytes at page.piece)
-
-  -- no answer is short
-  not_short : (asked got : ℕ) → IsShort t asked got → ⊥
-  not_short asked got s =
-      let f = for s.call (Bytes s.bytes) s.own in
-      let level = f.path.level in
-      let index = ancestor f.block level in
-      let answer = held.each s.call (Bytes s.bytes) s.own in
-      let to = f.to in
-      let inside : f.block < it.measure.blocks = omega (arith, to) in
-      let page = page_held h it.measure content measured item.most it.layout level index holds f.path.level_in (ancestor-page it.measure.blocks f.block level inside) answer.0 (Bytes s.bytes) (subst (λ (c : Call). serve h c answer.0 ≡ Some (Bytes s.bytes, h)) f.path.call_is answer.1) in
-      let bytes : page.bytes ≡ s.bytes = bytes_is page.bytes s.bytes (sym page.said_is) in
-      let asks : asked ≡ asked_for it.layout it.measure.blocks level index =
-      same_size _ _ (sym s.asks ∙ ap kind_of f.path.call_is ∙ kind_asked it.layout it.measure.blocks level index) in
-      absurd (omega (arith, asks, page.len, ap length bytes, s.got_is, s.short))
-
-  module _ (calm : t.failed ≡ 0) where
-    not_blamed : (cause : Cause) → IsReadBlame it.layout it.measure (IsForItem it r) t cause → ⊥
-    not_blamed (OfMismatch x) blame = not_mismatch x blame
-    not_blamed (Short asked got) blame = not_short asked got blame.short
-    not_blamed (Failed faults) blame = let failed = blame.failed in absurd (omega (arith, calm, failed))
-
-    defined : (sent : Sent) (cause : Option Cause) → ItemRow items world t r sent cause → IsDefined r content t.scarce sent cause
-    defined sent cause (no_item absent none own) = absurd (omega (arith, slice_get_within items r.item it at))
-    defined sent cause (too_large there large none own) = over_limit large
-    defined sent cause (served other bytes there fits none all right shown) =
-        rw (← slice_is (world r.item) content t other r bytes is shown) (whole fits)
-    defined sent cause (blamed other c there fits blame order right) =
-        let same : other ≡ it = same_item other it (sym there ∙ at) in
-        absurd (not_blamed c (subst (λ (z : Device). IsReadBlame z.layout z.measure (IsForItem z r) t c) same blame))
-    defined sent cause (no_memory other there fits scarce order right) = no_room fits scarce.scarce
-
 -- the item's row of a read
-row_of : (items : List Device) (world : World) (t : Trace) (request : Request) (old new : State) (sent : Sent) (cause : Option Cause) (r : ItemRead) → request ≡ read_of r
-    → Row items world t request old new sent cause → ItemRow items world t r sent cause
-row_of items world t request old new sent cause r e row =
-    (subst (λ q. Row items world t q old new sent cause) e row).1
+row_of : (g : Setting) (world : World) (t : Trace) (request : Request) (old new : State) (sent : Sent) (cause : Option Cause) (r : ItemRead) → request ≡ read_of r
+    → Row g world t request old new sent cause → ItemRow g.items world t r sent cause
+row_of g world t request old new sent cause r e row =
+    (subst (λ q. Row g world t q old new sent cause) e row).1
 
 -- the calls of a read are those for its item
-pub calls_of : (items : List Device) (request : Request) (r : ItemRead) (it : Device) (call : Call) → request ≡ read_of r → slice_get items r.item ≡ Some it → IsFor items request call → IsForItem it r call
-calls_of items request r it call e at f =
-    let g = subst (λ q. IsFor items q call) e f in
-    subst (λ (z : Device). IsForItem z r call) (same_item g.0 it (sym g.1 ∙ at)) g.2
+pub calls_of : (g : Setting) (s : State) (request : Request) (r : ItemRead) (it : Device) (call : Call) (given : List ℕ) → request ≡ read_of r → slice_get g.items r.item ≡ Some it
+    → IsFor g s request call given → reading (IsForItem it r) call given
+calls_of g s request r it call given e at f =
+    let there = subst (λ q. IsFor g s q call given) e f in
+    subst (λ (z : Device). reading (IsForItem z r) call given) (same_item there.0 it (sym there.1 ∙ at)) there.2
 
--- the reply to a read whose answers are what is held
-pub defined_over : (items : List Device) (world : World) (old : Moment) (turn : Turn) (new : Moment) (h : Held) (r : ItemRead) (it : Device) (content : List ℕ)
-    → Step items world old turn new → request_of turn.frame ≡ read_of r → slice_get items r.item ≡ Some it → IsItem it → world r.item ≡ Some content
-    → IsWorld items world new.heard → AreServed h (heard_of turn.own) → HoldsDevice h it content → failures_of turn.own ≡ 0 → IsDefined r content new.told.scarce turn.sent turn.cause
-defined_over items world old turn new h r it content step request at item is w truly holds calm =
+inside_item : (it : Device) → IsInside it.measure (size_of it)
+inside_item it b small = omega (arith, small)
+
+module _ (g : Setting) (s : State) (world : World) (t : Trace) (h : Held) (r : ItemRead) (it : Device) (content : List ℕ) (at : slice_get g.items r.item ≡ Some it) (item : IsItem it)
+    (is : world.item r.item ≡ Some content) (w : IsWorld g s world t.heard) (for : (call : Call) (said : Said) → IsIn call said t.own → IsForItem it r call)
+    (nothing : (cause : Cause) → IsReadBlame it.layout it.measure (IsForItem it r) t cause → ⊥) where
+  defined : (sent : Sent) (cause : Option Cause) → ItemRow g.items world t r sent cause → IsDefined r content t.scarce sent cause
+  defined sent cause (no_item absent none own) = absurd (omega (arith, slice_get_within g.items r.item it at))
+  defined sent cause (too_large there large none own) = over_limit large
+  defined sent cause (served other bytes there fits none all right shown) =
+      rw (← slice_is (world.item r.item) content t other r bytes is shown) (whole fits)
+  defined sent cause (blamed other c there fits blame order right) =
+      let same : other ≡ it = same_item other it (sym there ∙ at) in
+      absurd (nothing c (subst (λ (z : Device). IsReadBlame z.layout z.measure (IsForItem z r) t c) same blame))
+  defined sent cause (no_memory other there fits scarce order right) = no_room fits scarce.scarce
+
+-- the reply to a read whose answers are what is held, and of whose calls none failed
+pub defined_over : (g : Setting) (world : World) (old : Moment) (turn : Turn) (new : Moment) (h : Held) (r : ItemRead) (it : Device) (content : List ℕ)
+    → Step g world old turn new → request_of turn.frame ≡ read_of r → slice_get g.items r.item ≡ Some it → IsItem it → world.item r.item ≡ Some content
+    → IsWorld g old.state world new.heard → AreServed h (heard_of turn.own) → HoldsDevice h it content → failures_of turn.own ≡ 0
+    → IsDefined r content new.told.scarce turn.sent turn.cause
+defined_over g world old turn new h r it content step request at item is w truly holds none =
+    let measured = w.items r.item it content at is in
+    let tree = measured_tree it.measure content measured in
+    let own : IsWorld g old.state world (heard_of turn.own) = world_last g old.state world old.heard (heard_of turn.own) (subst (λ (x : Exchanges). IsWorld g old.state world x) step.heard w) in
     let for : (call : Call) (said : Said) → IsIn call said (heard_of turn.own) → IsForItem it r call = λ call said i.
-    calls_of items _ r it call request at (each_heard (reads (IsFor items (request_of turn.frame))) turn.own step.calls call said i).1.0 in
-    let own : IsWorld items world (heard_of turn.own) = world_last items world old.heard (heard_of turn.own) (subst (λ (x : Exchanges). IsWorld items world x) step.heard w) in
-    defined items world (trace old turn new) h r it content at item is own truly holds for calm turn.sent turn.cause (row_of items world (trace old turn new) _ old.state new.state turn.sent turn.cause r request step.row)
+    let c = each_heard (IsFor g old.state (request_of turn.frame)) turn.own step.calls call said i in
+    (calls_of g old.state _ r it call c.0 request at c.1).0 in
+    let nothing = not_blamed h it.layout it.measure (size_of it) r.offset r.size content tree item.most (inside_item it) holds (trace old turn new)
+        (item_apart g old.state world (heard_of turn.own) r.item it content at is own) truly for none in
+    defined g old.state world (trace old turn new) h r it content at item is own for nothing turn.sent turn.cause (row_of g world (trace old turn new) _ old.state new.state turn.sent turn.cause r request step.row)
+
+pub all_served : ReadsAreServed
+all_served g world old turn new h r it content step request at item is w told holds calm =
+    let tree = measured_tree it.measure content (w.items r.item it content at is) in
+    let each : Each (reading (IsForItem it r)) turn.own = each_so (IsFor g old.state (request_of turn.frame)) (reading (IsForItem it r)) turn.own
+        (λ call given p. calls_of g old.state _ r it call given request at p) step.calls in
+    let none = calm_by h it.layout it.measure (size_of it) r.offset r.size content tree item.most (inside_item it) holds old.told new.told turn.own step.talked told each calm in
+    let a = after h it.layout it.measure (size_of it) r.offset r.size content tree item.most (inside_item it) holds old.told new.told turn.own step.talked told each in (
+      defined_over g world old turn new h r it content step request at item is w a.3 holds none,
+      stays h it.layout it.measure (size_of it) r.offset r.size content tree item.most (inside_item it) holds old.told new.told turn.own step.talked told each,
+    )
+
+-- ---- READs of files
+
+-- the row of a message
+message_row : (g : Setting) (world : World) (t : Trace) (request : Request) (old new : State) (sent : Sent) (cause : Option Cause) (m : Result Message Bad) → request ≡ message_of m
+    → Row g world t request old new sent cause → MessageRow world t m old.fuse new.fuse sent cause
+message_row g world t request old new sent cause m e row =
+    (subst (λ q. Row g world t q old new sent cause) e row).1
+
+-- the calls of a READ are those for its file
+file_calls_of : (g : Setting) (s : State) (request : Request) (m : Result Message Bad) (f : MeasuredFile) (offset size : ℕ) (call : Call) (given : List ℕ) → request ≡ message_of m
+    → aim_of s.fuse m ≡ Ok (reads f offset size) → IsFor g s request call given → reading (IsFileRead f offset size) call given
+file_calls_of g s request m f offset size call given e aim c =
+    subst (λ (a : Result Aim Errno). reading (IsForFuse a) call given) aim (subst (λ q. IsFor g s q call given) e c)
+
+read_row : (m : Result Message Bad) (s : State) (t : Trace) (a : Answer) (c : Option Cause) (f : MeasuredFile) (offset size : ℕ)
+    → aim_of s.fuse m ≡ Ok (reads f offset size) → FuseRow (aim_of s.fuse m) t a c → ReadRow f offset size t a c
+read_row m s t a c f offset size aim row = subst (λ (z : Result Aim Errno). FuseRow z t a c) aim row
+
+module _ (f : MeasuredFile) (offset size : ℕ) (t : Trace) (content : List ℕ) (tree : HasTree f.measure content) (size_is : f.size ≡ length content)
+    (apart : NoClash (IsHashed t.own content f.measure.salt)) (nothing : (cause : Cause) → IsReadBlame (layout_of f) f.measure (IsFileRead f offset size) t cause → ⊥) (unique : ℕ) where
+  file_defined : (a : Answer) (cause : Option Cause) → ReadRow f offset size t a cause → IsReadDefined unique offset size content t.scarce (message_sent unique a) cause
+  file_defined a cause (read_bytes bytes none cut all right) =
+      rw (cut_content f.measure t.own content f.size offset size bytes tree apart size_is cut) slice
+  file_defined a cause (read_blamed c blame order right) = absurd (nothing c blame)
+  file_defined a cause (read_no_room scarce order right) = short_of_memory scarce.scarce
+
+inside_file : (f : MeasuredFile) → block_count f.size ≡ f.measure.blocks → IsInside f.measure f.size
+inside_file f count b small = omega (arith, count, small)
+
+pub files_served : FileReadsAreServed
+files_served g world old turn new h m n f offset size c step request aim there is opened w told holds calm =
+    let known = known_by g old.state world old.heard new.heard (heard_of turn.own) step.heard opened w in
+    let content_of = known.files n f c there is in
+    let tree = content_of.tree in
+    let read = readable old.state old.heard opened n f there in
+    let own = known_last g old.state world old.heard (heard_of turn.own) (subst (λ (x : Exchanges). Known g old.state world x) step.heard known) in
+    let each : Each (reading (IsFileRead f offset size)) turn.own = each_so (IsFor g old.state (request_of turn.frame)) (reading (IsFileRead f offset size)) turn.own
+        (λ call given p. file_calls_of g old.state _ m f offset size call given request aim p) step.calls in
+    let for : (call : Call) (said : Said) → IsIn call said (heard_of turn.own) → IsFileRead f offset size call =
+    λ call said i. (each_heard (reading (IsFileRead f offset size)) turn.own each call said i).1.0 in
+    let inside = inside_file f read.blocks in
+    let limit = read.limit in
+    let apart = file_apart g old.state world (heard_of turn.own) n f c there is own in
+    let none = calm_by h (layout_of f) f.measure f.size offset size c.content tree limit inside holds old.told new.told turn.own step.talked told each calm in
+    let a = after h (layout_of f) f.measure f.size offset size c.content tree limit inside holds old.told new.told turn.own step.talked told each in
+    let nothing = not_blamed h (layout_of f) f.measure f.size offset size c.content tree limit inside holds (trace old turn new) apart a.3 for none in
+    let row = message_row g world (trace old turn new) _ old.state new.state turn.sent turn.cause m request step.row in
+    let answer = read_row m old.state (trace old turn new) row.answer turn.cause f offset size aim row.row in (
+      subst (λ (z : Sent). IsReadDefined (number_of m) offset size c.content new.told.scarce z turn.cause) (sym row.sent_is)
+      (file_defined f offset size (trace old turn new) c.content tree content_of.size apart nothing (number_of m) row.answer turn.cause answer),
+      stays h (layout_of f) f.measure f.size offset size c.content tree limit inside holds old.told new.told turn.own step.talked told each,
+    )

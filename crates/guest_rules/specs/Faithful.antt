@@ -1,19 +1,28 @@
--- What a read of an item is answered where the host holds the item and no call fails.
-use Rattle.std.specs.Prelude.{Bool, true, ◌≡◌, ◌⊎◌, ℕ, ◌^◌, ◌<◌, ◌≤◌, List, take, drop, slice_get, Option, Some, None}
+-- What a read of an item or of a file is answered where the host holds it and no call fails.
+use Rattle.std.specs.Prelude.{Bool, true, ◌≡◌, ◌⊎◌, ℕ, ◌<◌, ◌≤◌, List, take, drop, length, slice_get, Option, Some, None, Result, Ok, Err}
+use Rattle.mg_base.specs.declared.errno.Errno.{Errno}
+use Rattle.mg_base.specs.declared.errno.Errno.TheVariants.{Enomem}
 use Rattle.host_traits.specs.Held.{Held}
-use Rattle.host_traits.specs.Told.{Told, Exchanges, Calm, failures_of, heard_size}
-use Rattle.session_frames.specs.Frames.{Framed}
-use Rattle.session_frames.specs.Replies.{Sent, sent_bytes, sent_code}
+use Rattle.host_traits.specs.Told.{Told, failures_of}
+use Rattle.session_frames.specs.Replies.{Sent, sent_bytes, sent_code, sent_answer}
 use Rattle.verity_path.specs.declared.device.Cause.{Cause}
 use Rattle.verity_path.specs.declared.device.Device.{Device}
-use Rattle.verity_path.specs.Holding.{HoldsAt}
-use Rattle.guest_rules.specs.Machine.{World, Moment, Turn, ItemRead, request_of, read_of, IsItem}
+use Rattle.verity_path.specs.Holding.{HoldsAt, WhereHeld}
+use Rattle.ro_file.specs.Files.{MeasuredFile, layout_of}
+use Rattle.fuse_codec.specs.Message.{Message, Bad}
+use Rattle.fuse_codec.specs.Reply.{refused, bytes_out}
+use Rattle.fuse_server.specs.Aims.{Aim, says, makes, reads, aim_of, number_of}
+use Rattle.guest_rules.specs.Machine.{Setting, State, World, Salted, Moment, Turn, ItemRead, Request, message_of, request_of, read_of, unbuilt, IsItem, size_of}
 use Rattle.guest_rules.specs.Step.{Step}
-use Rattle.guest_rules.specs.Run.{IsWorld}
+use Rattle.guest_rules.specs.Run.{IsWorld, AreOpened, IsFile}
 
 -- what is held has a content and the pages of its tree at a device's places
 abbrev pub HoldsDevice : Held → Device → List ℕ → Type 0
 HoldsDevice h it content = HoldsAt h it.layout it.measure content
+
+-- what is held has a content and the pages of its tree as those of a file
+abbrev pub HoldsContent : Held → MeasuredFile → List ℕ → Type 0
+HoldsContent h f content = HoldsAt h (layout_of f) f.measure content
 
 -- The defined reply to a read of an item that is there: 22 where the size is above 131,072, and else the content's bytes, cut
 -- at its end. Want of memory alone may stand in place of the bytes. None of these has a cause.
@@ -22,19 +31,50 @@ pub data IsDefined (r : ItemRead) (content : List ℕ) (scarce : Bool) : Sent �
   whole : r.size ≤ 131072 → IsDefined r content scarce (sent_bytes (take r.size (drop r.offset content))) None
   no_room : r.size ≤ 131072 → scarce ≡ true → IsDefined r content scarce (sent_code 1 12) None
 
+-- The defined reply to a READ that its checks let through: the content's bytes, cut at its end, or want of memory. Neither has a
+-- cause.
+pub data IsReadDefined (unique offset size : ℕ) (content : List ℕ) (scarce : Bool) : Sent → Option Cause → Type 0 where
+  slice : IsReadDefined unique offset size content scarce (sent_answer unique (bytes_out (take size (drop offset content)))) None
+  no_memory : scarce ≡ true → IsReadDefined unique offset size content scarce (sent_answer unique (refused Enomem)) None
+
+-- no call of a turn failed, or the host is honest
+abbrev pub IsCalm : Moment → Turn → Type 0
+IsCalm old turn = (failures_of turn.own ≡ 0) ⊎ (old.told.honest ≡ true)
+
 -- Over a faithful host that holds an item as the world has it, a read of the item in which no call fails has its defined reply,
 -- and over an honest one each read of it has; and what is held stays.
 abbrev pub ReadsAreServed : Type 0
-ReadsAreServed = (items : List Device) (world : World) (old : Moment) (turn : Turn) (new : Moment) (h : Held) (r : ItemRead) (it : Device) (content : List ℕ)
-    → Step items world old turn new → request_of turn.frame ≡ read_of r → slice_get items r.item ≡ Some it → IsItem it → world r.item ≡ Some content
-    → IsWorld items world new.heard → old.told.held ≡ Some h → HoldsDevice h it content
-    → (failures_of turn.own ≡ 0) ⊎ (old.told.honest ≡ true)
-    → IsDefined r content new.told.scarce turn.sent turn.cause × (new.told.held ≡ Some h)
+ReadsAreServed = (g : Setting) (world : World) (old : Moment) (turn : Turn) (new : Moment) (h : Held) (r : ItemRead) (it : Device) (content : List ℕ)
+    → Step g world old turn new → request_of turn.frame ≡ read_of r → slice_get g.items r.item ≡ Some it → IsItem it → world.item r.item ≡ Some content
+    → IsWorld g old.state world new.heard → old.told.held ≡ Some h → HoldsDevice h it content
+    → IsCalm old turn → IsDefined r content new.told.scarce turn.sent turn.cause × (new.told.held ≡ Some h)
 
--- The same of what a host tells before a read of an item that is there and after it: in each world that meets the premises where
--- all of this was heard, and where the host held the item before, and is honest or its count of failures doesn't rise.
-abbrev pub ReadIsServed : List Device → Told → Told → Framed → Sent → Option Cause → Type 0
-ReadIsServed items old new frame sent cause = (world : World) (heard now : Exchanges) (h : Held) (r : ItemRead) (it : Device) (content : List ℕ)
-    → old.heard ≡ Some heard → heard_size heard < 2 ^ 30 → new.heard ≡ Some now → old.held ≡ Some h → request_of frame ≡ read_of r → slice_get items r.item ≡ Some it → IsItem it → world r.item ≡ Some content
-    → IsWorld items world now → HoldsDevice h it content → Calm old new
-    → IsDefined r content new.scarce sent cause × (new.held ≡ Some h)
+-- The same of a READ of a read-only file, which its checks let through: of all messages a READ alone asks the host for anything.
+abbrev pub FileReadsAreServed : Type 0
+FileReadsAreServed = (g : Setting) (world : World) (old : Moment) (turn : Turn) (new : Moment) (h : Held) (m : Result Message Bad)
+    (n : ℕ) (f : MeasuredFile) (offset size : ℕ) (c : Salted)
+    → Step g world old turn new → request_of turn.frame ≡ message_of m → aim_of old.state.fuse m ≡ Ok (reads f offset size)
+    → IsFile old.state n f → world.file f.file ≡ Some c → AreOpened old.state old.heard
+    → IsWorld g old.state world new.heard → old.told.held ≡ Some h → HoldsContent h f c.content
+    → IsCalm old turn → IsReadDefined (number_of m) offset size c.content new.told.scarce turn.sent turn.cause × (new.told.held ≡ Some h)
+
+-- ---- by what a host tells before a request and after it
+
+-- Where the host held the content of an item and its tree, and no call failed or it is honest, a read of the item has its defined
+-- reply, and what is held stays. No premise says that digests don't clash.
+abbrev pub ItemIsServed : Setting → Told → Told → ItemRead → Sent → Option Cause → Type 0
+ItemIsServed g old new r sent cause = (it : Device) → slice_get g.items r.item ≡ Some it
+    → WhereHeld it.layout it.measure old new (λ content. size_of it ≡ length content → IsDefined r content new.scarce sent cause)
+
+-- the same of a READ of a read-only file that its checks let through: of all messages a READ alone asks the host for anything
+abbrev pub MessageIsServed : Result Aim Errno → ℕ → Told → Told → Sent → Option Cause → Type 0
+MessageIsServed (Ok (reads f offset size)) unique old new sent cause =
+    WhereHeld (layout_of f) f.measure old new (λ content. IsReadDefined unique offset size content new.scarce sent cause)
+MessageIsServed (Ok (says a)) unique old new sent cause = Unit {0}
+MessageIsServed (Ok (makes a)) unique old new sent cause = Unit {0}
+MessageIsServed (Err e) unique old new sent cause = Unit {0}
+
+abbrev pub RequestIsServed : Setting → State → Request → Told → Told → Sent → Option Cause → Type 0
+RequestIsServed g s (message_of m) old new sent cause = MessageIsServed (aim_of s.fuse m) (number_of m) old new sent cause
+RequestIsServed g s (read_of r) old new sent cause = ItemIsServed g old new r sent cause
+RequestIsServed g s unbuilt old new sent cause = ⊥

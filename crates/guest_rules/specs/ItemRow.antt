@@ -25,8 +25,8 @@ item_calls it r = read_calls it.layout it.measure (size_of it) r.offset r.size
 pub data ItemRow (items : List Device) (world : World) (t : Trace) (r : ItemRead) : Sent → Option Cause → Type 0 where
   no_item : length items ≤ r.item → t.failed ≡ 0 → t.own ≡ [] → ItemRow items world t r (sent_code 1 2) None
   too_large : r.item < length items → 131072 < r.size → t.failed ≡ 0 → t.own ≡ [] → ItemRow items world t r (sent_code 1 22) None
-  served : (it : Device) (bytes : List ℕ) → slice_get items r.item ≡ Some it → r.size ≤ 131072 → t.failed ≡ 0 → asked_in t.own ≡ item_calls it r → AreRight it.layout it.measure t.own t.own → IsSlice (world r.item) t.heard it.measure (size_of it) r.offset r.size bytes
-      → ItemRow items world t r (sent_bytes bytes) None
+  served : (it : Device) (bytes : List ℕ) → slice_get items r.item ≡ Some it → r.size ≤ 131072 → t.failed ≡ 0 → asked_in t.own ≡ item_calls it r → AreRight it.layout it.measure t.own t.own
+      → IsSlice (world.item r.item) t.heard it.measure (size_of it) r.offset r.size bytes → ItemRow items world t r (sent_bytes bytes) None
   blamed : (it : Device) (cause : Cause) → slice_get items r.item ≡ Some it → r.size ≤ 131072 → IsReadBlame it.layout it.measure (IsForItem it r) t cause → IsInOrder (item_calls it r) t
       → AreRightBefore it.layout it.measure t.own (judged_by cause) → ItemRow items world t r (sent_code 1 5) (Some cause)
   no_memory : (it : Device) → slice_get items r.item ≡ Some it → r.size ≤ 131072 → IsScarce t → IsInOrder (item_calls it r) t

@@ -1,5 +1,6 @@
 pub mod Machine
 pub mod ItemRow
+pub mod MessageRow
 pub mod Step
 pub mod Run
 pub mod Faithful

@@ -1,5 +1,5 @@
 -- The machine, its requests, and a moment of a run.
-use Rattle.std.specs.Prelude.{◌≡◌, ℕ, ◌*◌, ◌≤◌, List, take, drop, slice_get, Option, Some, None, ◌==◌, if◌then◌else◌}
+use Rattle.std.specs.Prelude.{◌≡◌, ℕ, ◌*◌, ◌≤◌, List, take, drop, slice_get, Option, Some, None, Result, ◌==◌, if◌then◌else◌}
 use Rattle.std.specs.Int.{w32, w64, from_le_bytes}
 use Rattle.host_traits.specs.Told.{Told, Exchanges, Made}
 use Rattle.session_frames.specs.Frames.{Framed}
@@ -7,6 +7,9 @@ use Rattle.session_frames.specs.Replies.{Sent}
 use Rattle.verity_path.specs.Calls.{Suits}
 use Rattle.verity_path.specs.declared.device.Cause.{Cause}
 use Rattle.verity_path.specs.declared.device.Device.{Device}
+use Rattle.fuse_codec.specs.Message.{Message, Bad}
+use Rattle.fuse_codec.specs.Reading.{decoded}
+use Rattle.fuse_server.specs.State.{State as Fuse}
 
 -- how many bytes an item has
 abbrev pub size_of : Device → ℕ
@@ -21,8 +24,14 @@ pub record IsItem (it : Device) : Type 0 where
 abbrev pub AreItems : List Device → Type 0
 AreItems items = (k : ℕ) (it : Device) → slice_get items k ≡ Some it → IsItem it
 
--- what the machine keeps: the bytes of entropy that are left
+-- what boot gave, and no request changes: the items of channel 1
+pub record Setting : Type 0 where
+  pub items : List Device
+
+-- What the machine keeps: names and nodes, open handles and read-only files, of which messages speak; the bytes of entropy that
+-- are left.
 pub record State : Type 0 where
+  pub fuse : Fuse
   pub entropy : List ℕ
 
 -- a read of a measured item
@@ -35,13 +44,15 @@ pub record ItemRead : Type 0 where
 abbrev pub item_read : List ℕ → ItemRead
 item_read payload = record { item = from_le_bytes w32 (take 4 payload); offset = from_le_bytes w64 (take 8 (drop 4 payload)); size = from_le_bytes w32 (take 4 (drop 12 payload)) }
 
--- the request of a frame, by its channel
+-- a message of FUSE, or what is wrong with it; a read of an item; or what isn't served yet
 pub data Request : Type 0 where
+  message_of : Result Message Bad → Request
   read_of : ItemRead → Request
   unbuilt : Request
 
+-- the request of a frame, by its channel
 abbrev pub request_of : Framed → Request
-request_of f = if f.channel == 1 then read_of (item_read f.payload) else unbuilt
+request_of f = if f.channel == 0 then message_of (decoded f.payload) else if f.channel == 1 then read_of (item_read f.payload) else unbuilt
 
 -- a moment of a run: the machine, all that was heard, and what the host tells
 pub record Moment : Type 0 where
@@ -59,10 +70,16 @@ pub record Turn : Type 0 where
   pub sent : Sent
   pub cause : Option Cause
 
--- for each item its content, where there is one
-abbrev pub World : Type 0
-World = ℕ → Option (List ℕ)
+-- the content of a read-only file, and the salt of its tree
+pub record Salted : Type 0 where
+  pub content : List ℕ
+  pub salt : List ℕ
+
+-- what is taken as known: for each item, and for each read-only file by its number at the host, its content, where there is one
+pub record World : Type 0 where
+  pub item : ℕ → Option (List ℕ)
+  pub file : ℕ → Option Salted
 
 -- the world without contents
 abbrev pub nowhere : World
-nowhere k = None
+nowhere = record { item = λ k. None; file = λ n. None }

@@ -6,36 +6,72 @@ use Rattle.hex.specs.Hex.{encode_lower}
 use Rattle.host_traits.specs.Told.{Told, Exchanges, Made, Talked, heard_of, heard_size}
 use Rattle.session_frames.specs.Frames.{Framed, frame}
 use Rattle.session_frames.specs.Replies.{reply_frame}
-use Rattle.sha_tree.specs.Tree.{hash_input}
 use Rattle.sha_tree.specs.Measured.{IsMeasured}
 use Rattle.sha_tree.specs.Path.{IsInput, NoClash}
-use Rattle.verity_path.specs.Pieces.{IsPiece}
+use Rattle.verity_path.specs.Pieces.{IsSeen}
 use Rattle.verity_path.specs.declared.device.Cause.{Cause}
 use Rattle.verity_path.specs.declared.device.Cause.TheVariants.{Mismatch, Short, Failed}
 use Rattle.verity_path.specs.declared.device.Device.{Device}
-use Rattle.guest_rules.specs.Machine.{State, World, nowhere, moment, Moment, Turn}
+use Rattle.verity_descriptor.specs.Spelling.{descriptor_bytes}
+use Rattle.ro_file.specs.Files.{MeasuredFile}
+use Rattle.ro_file.specs.Opening.{WasOpened}
+use Rattle.ro_file.specs.Contents.{descriptor_of, IsFileMeasured, IsHeardDescriptor}
+use Rattle.fuse_server.specs.State.{file_at}
+use Rattle.guest_rules.specs.Machine.{Setting, State, World, nowhere, Salted, moment, Moment, Turn}
 use Rattle.guest_rules.specs.Step.{Step}
 
+-- fewer than 2 ^ 30 bytes were heard, where that is told
+abbrev pub IsEarly : Option Exchanges → Type 0
+IsEarly None = Unit {0}
+IsEarly (Some heard) = heard_size heard < 2 ^ 30
+
 -- one request after another; each begins before 2 ^ 30 bytes were heard
-abbrev pub Run : List Device → World → Moment → List Turn → Moment → Type 0
-Run items world old [] new = old ≡ new
-Run items world old (turn ∷ turns) new = (mid : Moment) × (heard_size old.heard < 2 ^ 30) × Step items world old turn mid × Run items world mid turns new
+abbrev pub Run : Setting → World → Moment → List Turn → Moment → Type 0
+Run g world old [] new = old ≡ new
+Run g world old (turn ∷ turns) new = (mid : Moment) × IsEarly old.told.heard × Step g world old turn mid × Run g world mid turns new
 
--- what is hashed in a run: pieces that were heard, under the salt of each item, and the pages of the contents
-abbrev pub IsRunHashed : List Device → World → Exchanges → List ℕ → Type 0
-IsRunHashed items world heard x =
-    ((k : ℕ) × (it : Device) × (slice_get items k ≡ Some it) × (p : List ℕ) × IsPiece heard p × (x ≡ hash_input it.measure.salt p))
-    ⊎ ((k : ℕ) × (it : Device) × (content : List ℕ) × (slice_get items k ≡ Some it) × (world k ≡ Some content) × IsInput content it.measure.salt x)
+-- ---- worlds
 
--- The premises on a world, where this was heard: contents are measured, and no two different ones of what is hashed share a
--- digest.
-pub record IsWorld (items : List Device) (world : World) (heard : Exchanges) : Type 0 where
-  pub measured : (k : ℕ) (it : Device) (content : List ℕ) → slice_get items k ≡ Some it → world k ≡ Some content → IsMeasured it.measure content
-  pub no_clash : NoClash (IsRunHashed items world heard)
+-- the read-only file of a number, in this state; no request changes it
+abbrev pub IsFile : State → ℕ → MeasuredFile → Type 0
+IsFile s n f = file_at s.fuse.files n ≡ Some f
 
--- A run in the world without contents is a run in each world that meets the premises.
+-- What is hashed for the items: pieces that were heard, under the salt of each, and the pages of the contents.
+abbrev pub IsItemHashed : Setting → World → Exchanges → List ℕ → Type 0
+IsItemHashed g world heard x =
+    ((k : ℕ) × (it : Device) × (slice_get g.items k ≡ Some it) × IsSeen heard it.measure.salt x)
+    ⊎ ((k : ℕ) × (it : Device) × (content : List ℕ) × (slice_get g.items k ≡ Some it) × (world.item k ≡ Some content) × IsInput content it.measure.salt x)
+
+-- What is hashed for the read-only files: pieces that were heard, under the salt of each, and descriptors; the pages of the
+-- contents, and the contents' descriptors.
+abbrev pub IsFileHashed : State → World → Exchanges → List ℕ → Type 0
+IsFileHashed s world heard x =
+    ((n : ℕ) × (f : MeasuredFile) × IsFile s n f × IsSeen heard f.measure.salt x)
+    ⊎ IsHeardDescriptor heard x
+    ⊎ ((n : ℕ) × (f : MeasuredFile) × (c : Salted) × IsFile s n f × (world.file f.file ≡ Some c)
+      × (IsInput c.content c.salt x ⊎ (x ≡ descriptor_bytes (descriptor_of c.content c.salt))))
+
+-- what is hashed in a run
+abbrev pub IsRunHashed : Setting → State → World → Exchanges → List ℕ → Type 0
+IsRunHashed g s world heard x = IsItemHashed g world heard x ⊎ IsFileHashed s world heard x
+
+-- The premises on a world, where this was heard: contents of items are measured, contents of files have the digests by which the
+-- files were opened, and no two different ones of what is hashed share a digest.
+pub record IsWorld (g : Setting) (s : State) (world : World) (heard : Exchanges) : Type 0 where
+  pub items : (k : ℕ) (it : Device) (content : List ℕ) → slice_get g.items k ≡ Some it → world.item k ≡ Some content → IsMeasured it.measure content
+  pub files : (n : ℕ) (f : MeasuredFile) (c : Salted) → IsFile s n f → world.file f.file ≡ Some c → IsFileMeasured f.digest c.content c.salt
+  pub no_clash : NoClash (IsRunHashed g s world heard)
+
+-- each read-only file was opened by an answer among what was heard, which has its digest
+abbrev pub AreOpened : State → Exchanges → Type 0
+AreOpened s heard = (n : ℕ) (f : MeasuredFile) → IsFile s n f → WasOpened f.file f.digest heard f
+
+-- A run in the world without contents is a run in each world that meets the premises, where the files were opened before it.
 abbrev pub RunsStand : Type 0
-RunsStand = (items : List Device) (world : World) (old : Moment) (turns : List Turn) (new : Moment) → IsWorld items world new.heard → Run items nowhere old turns new → Run items world old turns new
+RunsStand = (g : Setting) (world : World) (old : Moment) (turns : List Turn) (new : Moment)
+    → AreOpened old.state old.heard → IsWorld g old.state world new.heard → Run g nowhere old turns new → Run g world old turns new
+
+-- ---- texts
 
 -- the frames of the turns
 abbrev pub frames_of : List Turn → List Framed
@@ -75,12 +111,12 @@ abbrev pub calls_of : List Turn → List Made
 calls_of turns = flat_map (λ t. t.own) turns
 
 -- frames were answered in these turns: the turns are a run, and their calls are those that were made, and no other was
-pub record Runs (items : List Device) (old_state new_state : State) (old new : Told) (turns : List Turn) : Type 0 where
+pub record Runs (g : Setting) (old_state new_state : State) (old new : Told) (turns : List Turn) : Type 0 where
   pub talked : Talked old new (calls_of turns)
-  pub run : (heard : Exchanges) → old.heard ≡ Some heard → Run items nowhere (moment old_state old heard) turns (moment new_state new (heard ++ heard_of (calls_of turns)))
+  pub run : (heard : Exchanges) → Run g nowhere (moment old_state old heard) turns (moment new_state new (heard ++ heard_of (calls_of turns)))
 
 -- the same from an offset on, and the replies and the lines of the log were written and nothing else
-pub record Ran (items : List Device) (old_state new_state : State) (old new : Told) (at : ℕ) (out_old out_new log_old log_new : Option (List ℕ)) (turns : List Turn) : Type 0 where
-  pub runs : Runs items old_state new_state old new turns
+pub record Ran (g : Setting) (old_state new_state : State) (old new : Told) (at : ℕ) (out_old out_new log_old log_new : Option (List ℕ)) (turns : List Turn) : Type 0 where
+  pub runs : Runs g old_state new_state old new turns
   pub written : Appends out_old out_new (out_bytes turns)
   pub logged : Appends log_old log_new (log_bytes at turns)

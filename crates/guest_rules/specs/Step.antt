@@ -8,27 +8,33 @@ use Rattle.session_frames.specs.Replies.{Sent}
 use Rattle.verity_path.specs.declared.device.Cause.{Cause}
 use Rattle.verity_path.specs.declared.device.Device.{Device}
 use Rattle.verity_path.specs.Range.{most_answers}
-use Rattle.guest_rules.specs.Machine.{State, ItemRead, Request, read_of, unbuilt, request_of, Moment, moment, Turn, World, nowhere, size_of}
+use Rattle.fuse_server.specs.Aims.{aim_of}
+use Rattle.fuse_server.specs.Rows.{IsForFuse, most_for_fuse}
+use Rattle.guest_rules.specs.Machine.{Setting, State, ItemRead, Request, message_of, read_of, unbuilt, request_of, Moment, moment, Turn, World, nowhere, size_of}
 use Rattle.guest_rules.specs.ItemRow.{IsForItem, ItemRow}
+use Rattle.guest_rules.specs.MessageRow.{MessageRow}
 
--- the calls that a request may make
-abbrev pub IsFor : List Device → Request → Call → Type 0
-IsFor items (read_of r) call = (it : Device) × (slice_get items r.item ≡ Some it) × IsForItem it r call
-IsFor items unbuilt call = ⊥
+-- the calls that a request may make, in this state, and what each hands over
+abbrev pub IsFor : Setting → State → Request → Call → List ℕ → Type 0
+IsFor g s (message_of m) call given = reads (IsForFuse (aim_of s.fuse m)) call given
+IsFor g s (read_of r) call given = (it : Device) × (slice_get g.items r.item ≡ Some it) × reads (IsForItem it r) call given
+IsFor g s unbuilt call given = ⊥
 
 -- the most calls that a request makes, failed ones counted
 abbrev pub answers_of : Option Device → ItemRead → ℕ
 answers_of None r = 0
 answers_of (Some it) r = most_answers it.measure (size_of it) r.offset r.size
 
-abbrev pub most_for : List Device → Request → ℕ
-most_for items (read_of r) = answers_of (slice_get items r.item) r
-most_for items unbuilt = 0
+abbrev pub most_for : Setting → State → Request → ℕ
+most_for g s (message_of m) = most_for_fuse (aim_of s.fuse m)
+most_for g s (read_of r) = answers_of (slice_get g.items r.item) r
+most_for g s unbuilt = 0
 
--- the reply, its cause and the new state of a request
-abbrev pub Row : List Device → World → Trace → Request → State → State → Sent → Option Cause → Type 0
-Row items world t (read_of r) old new sent cause = (new ≡ old) × ItemRow items world t r sent cause
-Row items world t unbuilt old new sent cause = ⊥
+-- The reply, its cause and the new state of a request. A message takes no entropy; a read changes nothing.
+abbrev pub Row : Setting → World → Trace → Request → State → State → Sent → Option Cause → Type 0
+Row g world t (message_of m) old new sent cause = (new.entropy ≡ old.entropy) × MessageRow world t m old.fuse new.fuse sent cause
+Row g world t (read_of r) old new sent cause = (new ≡ old) × ItemRow g.items world t r sent cause
+Row g world t unbuilt old new sent cause = ⊥
 
 -- the answers to a turn's own calls, and how many of its calls failed: what was heard before says nothing of its reply
 abbrev pub trace : Moment → Turn → Moment → Trace
@@ -36,17 +42,17 @@ trace old turn new = trace_of (heard_of turn.own) (failures_of turn.own) old.tol
 
 -- one request, from a moment to the next: these calls were made, and no other; each belongs to the request, and none follows one
 -- that failed; and what came of them
-pub record Step (items : List Device) (world : World) (old : Moment) (turn : Turn) (new : Moment) : Type 0 where
+pub record Step (g : Setting) (world : World) (old : Moment) (turn : Turn) (new : Moment) : Type 0 where
   pub talked : Talked old.told new.told turn.own
   pub heard : new.heard ≡ old.heard ++ heard_of turn.own
-  pub calls : Each (reads (IsFor items (request_of turn.frame))) turn.own
-  pub few : length turn.own ≤ most_for items (request_of turn.frame)
+  pub calls : Each (IsFor g old.state (request_of turn.frame)) turn.own
+  pub few : length turn.own ≤ most_for g old.state (request_of turn.frame)
   pub stops : StopsAtFailure turn.own
-  pub row : Row items world (trace old turn new) (request_of turn.frame) old.state new.state turn.sent turn.cause
+  pub row : Row g world (trace old turn new) (request_of turn.frame) old.state new.state turn.sent turn.cause
 
--- a request was answered by its own calls
-pub record Stepped (items : List Device) (old_state new_state : State) (old new : Told) (frame : Framed) (sent : Sent) (cause : Option Cause) : Type 0 where
+-- a request was answered by its own calls, whatever was heard before
+pub record Stepped (g : Setting) (old_state new_state : State) (old new : Told) (frame : Framed) (sent : Sent) (cause : Option Cause) : Type 0 where
   pub own : List Made
   pub talked : Talked old new own
-  pub step : (heard : Exchanges) → old.heard ≡ Some heard
-      → Step items nowhere (moment old_state old heard) (record { frame = frame; own = own; sent = sent; cause = cause }) (moment new_state new (heard ++ heard_of own))
+  pub step : (heard : Exchanges)
+      → Step g nowhere (moment old_state old heard) (record { frame = frame; own = own; sent = sent; cause = cause }) (moment new_state new (heard ++ heard_of own))

@@ -1,16 +1,17 @@
 // Laws of runs.
-ghost use Rattle.guest_rules.specs.Faithful.{ReadsAreServed};
+ghost use Rattle.guest_rules.specs.Faithful.{ReadsAreServed, FileReadsAreServed};
 ghost use Rattle.guest_rules.specs.Run.{RunsStand};
 
-/// A run whose bytes are cut from pages that are tied to the roots is a run in each world that meets the premises: there each
-/// byte is the content's. Its contract is the law; it does nothing.
+/// A run whose bytes are cut from pages that are tied to the roots is a run in each world that meets the premises, where the files
+/// were opened before it: there each byte is the content's. Its contract is the law; it does nothing.
 pub fn runs_stand_in_each_world()
     ensures { RunsStand }
 {}
 
 /// Over a faithful host that holds an item as the world has it, a read of the item in which no call fails has its defined reply,
-/// or want of memory, and over an honest host each read of it has; and what is held stays. Its contract is the law; it does
-/// nothing.
+/// or want of memory, and over an honest host each read of it has; and what is held stays. The same of a READ of a read-only
+/// file that its checks let through. Its contract is the law; it does nothing.
 pub fn reads_are_served()
-    ensures { ReadsAreServed }
+    ensures items { ReadsAreServed }
+    ensures files { FileReadsAreServed }
 {}

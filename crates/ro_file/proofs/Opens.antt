@@ -26,20 +26,20 @@ abbrev pub IsHeardOr : Result MeasuredFile RoFault → Type 0
 IsHeardOr (Ok f) = Unit {0}
 IsHeardOr (Err why) = IsHeard why
 
-sized : (file : ℕ) (d : Descriptor) → IsHeardOr (file_within file d)
-sized file d = elim (nat_lt (2 ^ 32) d.size) as (λ v. IsHeardOr (if v then Err (fault.TooLong d.size) else Ok (file_of file d))) [ true ↦ tt | false ↦ tt ]
+sized : (file : ℕ) (digest : Digest) (d : Descriptor) → IsHeardOr (file_within file digest d)
+sized file digest d = elim (nat_lt (2 ^ 32) d.size) as (λ v. IsHeardOr (if v then Err (fault.TooLong d.size) else Ok (file_of file digest d))) [ true ↦ tt | false ↦ tt ]
 
-read : (file : ℕ) (r : Result Descriptor DescriptorFault) → IsHeardOr (file_from file r)
-read file (Ok d) = sized file d
-read file (Err broken) = tt
+read : (file : ℕ) (digest : Digest) (r : Result Descriptor DescriptorFault) → IsHeardOr (file_from file digest r)
+read file digest (Ok d) = sized file digest d
+read file digest (Err broken) = tt
 
 heard : (file : ℕ) (digest : Digest) (bytes : List ℕ) → IsHeardOr (opened file digest bytes)
 unfolding opened
 heard file digest bytes =
     let other : Result MeasuredFile RoFault = Err (fault.DigestMismatch digest (record { 0 = sha256 bytes })) in
-    elim (nat_lt (length bytes) 256) as (λ v. IsHeardOr (if v then Err (fault.Short 256 (length bytes)) else if has_digest digest bytes then file_from file (decoded bytes) else other)) [
+    elim (nat_lt (length bytes) 256) as (λ v. IsHeardOr (if v then Err (fault.Short 256 (length bytes)) else if has_digest digest bytes then file_from file digest (decoded bytes) else other)) [
       | true ↦ tt
-      | false ↦ elim (has_digest digest bytes) as (λ v. IsHeardOr (if v then file_from file (decoded bytes) else other)) [ true ↦ read file (decoded bytes) | false ↦ tt ]
+      | false ↦ elim (has_digest digest bytes) as (λ v. IsHeardOr (if v then file_from file digest (decoded bytes) else other)) [ true ↦ read file digest (decoded bytes) | false ↦ tt ]
     ]
 
 module _ (file : ℕ) (digest : Digest) (x y : Told) (raw : List ℕ) (few : length raw ≤ 256) where

@@ -50,7 +50,7 @@ module _ (file : ℕ) (digest : Digest) (bytes all found : List ℕ) (long : 256
         let is : found ≡ sha256 bytes = hash ∙ ap sha256 copy in
         rw is at (so _ same)
 
-    pub read : opened file digest bytes ≡ file_from file (decoded bytes)
+    pub read : opened file digest bytes ≡ file_from file digest (decoded bytes)
     unfolding opened
     read =
         let whole : ltb (length bytes) 256 ≡ false = le-ltb _ _ long in
@@ -60,7 +60,7 @@ module _ (file : ℕ) (digest : Digest) (bytes all found : List ℕ) (long : 256
     pub broken : (why : DescriptorFault) → Some why ≡ first_fault all → Err (fault.Descriptor why) ≡ opened file digest bytes
     broken why first =
         let rule : first_fault bytes ≡ Some why = ap first_fault (sym copy) ∙ sym first in
-        sym (read ∙ ap (λ o. file_from file (answer o (said bytes))) rule)
+        sym (read ∙ ap (λ o. file_from file digest (answer o (said bytes))) rule)
 
     module _ (d : Descriptor) (sound : IsDescriptor d) (spelled : all ≡ descriptor_bytes d) where
       decoded_is : decoded bytes ≡ Ok d
@@ -69,9 +69,9 @@ module _ (file : ℕ) (digest : Digest) (bytes all found : List ℕ) (long : 256
       pub too_long : 2 ^ 32 < d.size → Err (fault.TooLong d.size) ≡ opened file digest bytes
       too_long much =
           let is : ltb (2 ^ 32) d.size ≡ true = lt-ltb _ _ much in
-          sym (read ∙ ap (file_from file) decoded_is ∙ rw is refl)
+          sym (read ∙ ap (file_from file digest) decoded_is ∙ rw is refl)
 
-      pub good : d.size ≤ 2 ^ 32 → Ok (file_of file d) ≡ opened file digest bytes
+      pub good : d.size ≤ 2 ^ 32 → Ok (file_of file digest d) ≡ opened file digest bytes
       good few =
           let is : ltb (2 ^ 32) d.size ≡ false = le-ltb _ _ few in
-          sym (read ∙ ap (file_from file) decoded_is ∙ rw is refl)
+          sym (read ∙ ap (file_from file digest) decoded_is ∙ rw is refl)

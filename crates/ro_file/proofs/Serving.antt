@@ -53,8 +53,8 @@ module _ (file : ℕ) (digest : Digest) (x y : Told) where
     right = λ h d calm held holds.
         let after = held_answered _ _ _ x y h held a in
         let same = same_answer (descriptor_bytes d) raw h after.0 _ (served h d holds) after.2 in
-        let whole : r ≡ Ok (file_of file d) = is ∙ ap (opened file digest) same.0 ∙ open_whole file digest d holds.sound holds.size holds.digest_is in
-        (after.1 ∙ ap Some same.1, subst (λ (z : Result MeasuredFile RoFault). OpensAs file d z) (sym whole) refl);
+        let whole : r ≡ Ok (file_of file digest d) = is ∙ ap (opened file digest) same.0 ∙ open_whole file digest d holds.sound holds.size holds.digest_is in
+        (after.1 ∙ ap Some same.1, subst (λ (z : Result MeasuredFile RoFault). OpensAs file digest d z) (sym whole) refl);
   }
 
 -- the size of a file that is held is its content's

@@ -58,8 +58,8 @@ sound_of digest d content salt h m same = record {
 }
 
 -- the file of a content's descriptor is the content's
-file_is : (file : ℕ) (d : Descriptor) (content salt : List ℕ) → d ≡ descriptor_of content salt → IsContentOf (file_of file d) content salt
-file_is file d content salt is = record {
+file_is : (file : ℕ) (digest : Digest) (d : Descriptor) (content salt : List ℕ) → d ≡ descriptor_of content salt → IsContentOf (file_of file digest d) content salt
+file_is file digest d content salt is = record {
   size = ap (λ (e : Descriptor). e.size) is;
   salt_is = ap (λ (e : Descriptor). e.salt) is;
   tree = record {
@@ -79,7 +79,7 @@ are_measured file digest heard f content salt w c =
     let same : bytes ≡ theirs = c.no_clash bytes theirs (inr (inl (record { file = file; was_heard = w.was_heard; whole = long }))) (inr (inr (inr refl))) one in
     let alike : descriptor_bytes d ≡ theirs = sym w.describes.spelled ∙ same in
     let is : d ≡ descriptor_of content salt = one_descriptor d (descriptor_of content salt) h (sound_of digest d content salt h c.measured alike) alike in
-    subst (λ (g : MeasuredFile). IsContentOf g content salt) (sym w.describes.file_is) (file_is file d content salt is)
+    subst (λ (g : MeasuredFile). IsContentOf g content salt) (sym w.describes.file_is) (file_is file digest d content salt is)
 
 -- what is hashed where the pages are read is hashed where the file is opened and read
 pub pages_apart : (digest : Digest) (heard : Exchanges) (f : MeasuredFile) (content salt : List ℕ) → IsContentOf f content salt → IsFileContent digest heard f content salt
@@ -100,7 +100,7 @@ unfolding pages_at
 no_pages zero = refl
 no_pages (suc level) = rw (no_pages level) refl
 
-some_blocks : (blocks level i : ℕ) → i < pages_at blocks level → 0 < blocks
+pub some_blocks : (blocks level i : ℕ) → i < pages_at blocks level → 0 < blocks
 some_blocks zero level i h = absurd (omega (arith, no_pages level))
 some_blocks (suc n) level i h = omega arith
 

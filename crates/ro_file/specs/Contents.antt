@@ -72,4 +72,4 @@ FileMismatchesLie = (file : ℕ) (digest : Digest) (t : Trace) (f : MeasuredFile
 -- What spells a descriptor of at most 2 ^ 32 bytes opens by its own digest.
 abbrev pub DescriptorsOpen : Type 0
 DescriptorsOpen = (file : ℕ) (digest : Digest) (d : Descriptor) → IsDescriptor d → d.size ≤ 2 ^ 32 →
-    digest.0 ≡ sha256 (descriptor_bytes d) → opened file digest (descriptor_bytes d) ≡ Ok (file_of file d)
+    digest.0 ≡ sha256 (descriptor_bytes d) → opened file digest (descriptor_bytes d) ≡ Ok (file_of file digest d)

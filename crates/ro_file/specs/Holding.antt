@@ -23,15 +23,15 @@ pub record HoldsDescriptor (h : Held) (number : ℕ) (digest : Digest) (d : Desc
   pub digest_is : digest.0 ≡ sha256 (descriptor_bytes d)
 
 -- it was opened as the file that a descriptor describes, or the host had no memory
-abbrev pub OpensAs : ℕ → Descriptor → Result MeasuredFile RoFault → Type 0
-OpensAs number d (Ok f) = f ≡ file_of number d
-OpensAs number d (Err why) = why ≡ fault.Memory
+abbrev pub OpensAs : ℕ → Digest → Descriptor → Result MeasuredFile RoFault → Type 0
+OpensAs number digest d (Ok f) = f ≡ file_of number digest d
+OpensAs number digest d (Err why) = why ≡ fault.Memory
 
 -- Where a host held such a file, and no call failed or the host is honest, it was opened, and the host holds afterwards what it
 -- held.
 pub record FileOpens (number : ℕ) (digest : Digest) (old new : Told) (result : Result MeasuredFile RoFault) : Type 0 where
   pub right : (h : Held) (d : Descriptor) → Calm old new → old.held ≡ Some h → HoldsDescriptor h number digest d
-      → (new.held ≡ Some h) × OpensAs number d result
+      → (new.held ≡ Some h) × OpensAs number digest d result
 
 -- Where a host held a content and its tree as those of a file, and no call failed or the host is honest, a read gives the
 -- content's bytes, cut at its end.

@@ -24,20 +24,20 @@ abbrev pub has_digest : Digest → List ℕ → Bool
 has_digest digest bytes = pointwise nat_eq (sha256 bytes) digest.0
 
 -- the file of a descriptor, unless it is too long
-abbrev pub file_within : ℕ → Descriptor → Result MeasuredFile RoFault
-file_within file d = if nat_lt (2 ^ 32) d.size then Err (fault.TooLong d.size) else Ok (file_of file d)
+abbrev pub file_within : ℕ → Digest → Descriptor → Result MeasuredFile RoFault
+file_within file digest d = if nat_lt (2 ^ 32) d.size then Err (fault.TooLong d.size) else Ok (file_of file digest d)
 
 -- the same for bytes that may break a rule of descriptors
-abbrev pub file_from : ℕ → Result Descriptor DescriptorFault → Result MeasuredFile RoFault
-file_from file (Ok d) = file_within file d
-file_from file (Err broken) = Err (fault.Descriptor broken)
+abbrev pub file_from : ℕ → Digest → Result Descriptor DescriptorFault → Result MeasuredFile RoFault
+file_from file digest (Ok d) = file_within file digest d
+file_from file digest (Err broken) = Err (fault.Descriptor broken)
 
 -- The file that these bytes describe, or the first of these rules that they break: there are 256 of them; their digest is the
 -- given one; they keep the rules of a descriptor, in order; its size is at most 2 ^ 32.
 unfoldable pub opened : ℕ → Digest → List ℕ → Result MeasuredFile RoFault
 opened file digest bytes =
     if nat_lt (length bytes) 256 then Err (fault.Short 256 (length bytes))
-    else if has_digest digest bytes then file_from file (decoded bytes)
+    else if has_digest digest bytes then file_from file digest (decoded bytes)
     else Err (fault.DigestMismatch digest (record { 0 = sha256 bytes }))
 
 -- the bytes have this digest, and spell the descriptor of this file
@@ -47,7 +47,7 @@ pub record Describes (file : ℕ) (digest : Digest) (bytes : List ℕ) (f : Meas
   pub spelled : bytes ≡ descriptor_bytes descriptor
   pub digest_is : sha256 bytes ≡ digest.0
   pub size : descriptor.size ≤ 2 ^ 32
-  pub file_is : f ≡ file_of file descriptor
+  pub file_is : f ≡ file_of file digest descriptor
 
 -- no call failed, and the one answer that was heard describes this file
 pub record IsOpened (file : ℕ) (digest : Digest) (t : Trace) (f : MeasuredFile) : Type 0 where

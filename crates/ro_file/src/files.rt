@@ -31,10 +31,11 @@ pub enum RoFault {
     Memory,
 }
 
-/// A file of the host that is only read, as its descriptor described it. Contracts see its number at the host, its size, and
-/// the measure of its tree.
+/// A file of the host that is only read, as its descriptor described it. Contracts see its number at the host, the digest by
+/// which it was opened, its size, and the measure of its tree.
 pub struct RoFile {
     file: u32,
+    digest: Digest,
     size: u64,
     measure: Measure,
 }
@@ -44,12 +45,12 @@ impl Model for RoFile {
 
     ghost Value = { MeasuredFile };
 
-    ghost view = { λ f. record { file = f.file; size = f.size; measure = f.measure } };
+    ghost view = { λ f. record { file = f.file; digest = f.digest; size = f.size; measure = f.measure } };
 
     ghost invariant = { λ f.
-        IsReadable (record { file = f.file; size = f.size; measure = f.measure }) };
+        IsReadable (record { file = f.file; digest = f.digest; size = f.size; measure = f.measure }) };
 
-    ghost inverse = { λ f. record { file = f.file; size = f.size; measure = f.measure } };
+    ghost inverse = { λ f. record { file = f.file; digest = f.digest; size = f.size; measure = f.measure } };
 }
 
 impl Clone for RoFile {
@@ -93,6 +94,7 @@ fn described(file: u32, digest: &Digest, bytes: &[u8]) -> Result<RoFile, RoFault
     }
     Ok(RoFile {
         file,
+        digest: *digest,
         size,
         measure: Measure {
             blocks: size.div_ceil(4096),

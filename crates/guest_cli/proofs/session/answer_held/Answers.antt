@@ -1,19 +1,18 @@
-use Rattle.std.proofs.Common.{[], ◌∙◌, refl, ap, arith, length}
-use Rattle.session_frames.specs.Frames.{Fronts, Held}
+use Rattle.std.proofs.Common.{[], ◌∙◌, refl, sym, ap, arith, length}
+use Rattle.session_frames.specs.Frames.{Held}
 use Rattle.session_frames.proofs.Heads.{length_of_held}
-use Rattle.guest_cli.proofs.Sessions.{few_heard, held_start, held_next, held_stop}
+use Rattle.guest_cli.proofs.Sessions.{few_heard, is_early, held_start, held_next, held_stop}
 use Rattle.guest_cli.proofs.session.answer_held.Goals as goal
 
 pub loop-channel-init : goal.loop-channel-init
-loop-channel-init g c = record { items = refl; answered = ([], held_start _ _ _ _ _ _); outs = omega arith; logs = omega arith }
+loop-channel-init g c = record { setting = refl; answered = ([], held_start _ _ _ _ _ _); outs = omega arith; logs = omega arith }
 
 pub returns-in-Err-clause-held : goal.returns-in-Err-clause-held
 returns-in-Err-clause-held g c =
     let so = c.loop-channel.invariant.answered in
     let f = c.in-Frame.ensures in
-    let f1 : Fronts c.loop-channel.splitter.held 1 c.in-Frame.payload.now f.0 = rw c.if-channel-ne1.false at f.1 in
-    let few = few_heard (g.H.Host.told c.loop-channel.host) c.heard_bytes.result c.heard_bytes.ensures c.if-heard_bytes-ge-LIMIT.false in
-    held_stop _ _ _ _ _ _ _ _ _ _ _ so.0 so.1 _ _ _ _ c.in-Frame.payload.now f.0 f1 few (rw (c.loop-channel.invariant.items, c.at.ensures) at c.in-Err.ensures.turn)
+    let few = is_early (g.H.Host.told c.loop-channel.host) c.heard_bytes.result c.heard_bytes.ensures c.if-heard_bytes-ge-LIMIT.false in
+    held_stop _ _ _ _ _ _ _ _ _ _ _ so.0 so.1 _ _ _ _ c.in-Frame.channel c.in-Frame.payload.now f.0 f.1 few (rw (c.loop-channel.invariant.setting, c.at.ensures) at c.in-Err.ensures.turn)
 
 pub loop-channel-smaller : goal.loop-channel-smaller
 loop-channel-smaller g c =
@@ -26,19 +25,18 @@ pub loop-channel-preserved : goal.loop-channel-preserved
 loop-channel-preserved g c =
     let so = c.loop-channel.invariant.answered in
     let f = c.in-Frame.ensures in
-    let f1 : Fronts c.loop-channel.splitter.held 1 c.in-Frame.payload.now f.0 = rw c.if-channel-ne1.false at f.1 in
-    let done = c.done.ensures 1 c.in-Frame.payload.now f.0 f1 in
-    let few = few_heard (g.H.Host.told c.loop-channel.host) c.heard_bytes.result c.heard_bytes.ensures c.if-heard_bytes-ge-LIMIT.false in
+    let done = c.done.ensures c.in-Frame.channel c.in-Frame.payload.now f.0 f.1 in
+    let few = is_early (g.H.Host.told c.loop-channel.host) c.heard_bytes.result c.heard_bytes.ensures c.if-heard_bytes-ge-LIMIT.false in
     record {
-      items = c.in-Ok.ensures.items ∙ c.loop-channel.invariant.items;
-      answered = held_next _ _ _ _ _ _ _ _ _ _ _ so.0 so.1 _ _ _ _ _ c.in-Frame.payload.now f.0 f1 done few (rw (c.loop-channel.invariant.items, c.at.ensures) at c.in-Ok.ensures.turn);
+      setting = c.in-Ok.ensures.setting ∙ c.loop-channel.invariant.setting;
+      answered = held_next _ _ _ _ _ _ _ _ _ _ _ so.0 so.1 _ _ _ _ _ c.in-Frame.channel c.in-Frame.payload.now f.0 f.1 done few (rw (c.loop-channel.invariant.setting, c.at.ensures) at c.in-Ok.ensures.turn);
       outs = omega (arith, c.loop-channel.invariant.outs, c.in-Ok.ensures.out);
       logs = omega (arith, c.loop-channel.invariant.logs, c.in-Ok.ensures.log);
     }
 
-pub returns-then-channel-ne1-clause-held : goal.returns-then-channel-ne1-clause-held
-returns-then-channel-ne1-clause-held g c =
+pub returns-then-is_unbuilt-clause-held : goal.returns-then-is_unbuilt-clause-held
+returns-then-is_unbuilt-clause-held g c =
     let so = c.loop-channel.invariant.answered in
     let f = c.in-Frame.ensures in
     let few = few_heard (g.H.Host.told c.loop-channel.host) c.heard_bytes.result c.heard_bytes.ensures c.if-heard_bytes-ge-LIMIT.false in
-    (so.0, so.1, (few, record { channel = c.in-Frame.channel; payload = c.in-Frame.payload.now; rest = f.0; fronts = f.1; other = c.if-channel-ne1.true }))
+    (so.0, so.1, (few, record { channel = c.in-Frame.channel; payload = c.in-Frame.payload.now; rest = f.0; fronts = f.1; is = sym c.is_unbuilt.ensures ∙ c.if-is_unbuilt.true }))

@@ -5,8 +5,8 @@ use Rattle.guest_cli.proofs.session.answer_held.Given as goal
 
 abbrev pub invariant-loop-channel : goal.invariant-loop-channel
 invariant-loop-channel g l = record {
-  items : l.engine.items ≡ l.fn.engine.items;
-  answered : (turns : List Turn) × Answered l.fn.engine.items l.fn.engine.state l.engine.state (g.H.Host.told l.fn.host) (g.H.Host.told l.host)
+  setting : l.engine.setting ≡ l.fn.engine.setting;
+  answered : (turns : List Turn) × Answered l.fn.engine.setting l.fn.engine.state l.engine.state (g.H.Host.told l.fn.host) (g.H.Host.told l.host)
       (g.K.Sink.holds l.fn.out) (g.K.Sink.holds l.out) (g.L.Sink.holds l.fn.log) (g.L.Sink.holds l.log) l.fn.splitter l.splitter turns;
   outs : g.K.Sink.faults l.fn.out ≤ g.K.Sink.faults l.out;
   logs : g.L.Sink.faults l.fn.log ≤ g.L.Sink.faults l.log;

@@ -14,7 +14,7 @@ parts : (piece front left : List ℕ) (n : ℕ) → piece ≡ front ++ left → 
 parts piece front left n e = e ∙ ap (λ (t : List ℕ). front ++ t) (sym (take-append-drop n left)) ∙ sym (append_assoc front (take n left) (drop n left)) ∙ ap (λ (t : List ℕ). (front ++ take n left) ++ t) (sym (all_of_it left n))
 
 pub loop-left-init : goal.loop-left-init
-loop-left-init g c = record { items = refl; answered = ([], [], refl, over_start _ _ _ _ _ _); cut = c.requires.cut; outs = omega arith; logs = omega arith }
+loop-left-init g c = record { setting = refl; answered = ([], [], refl, over_start _ _ _ _ _ _); cut = c.requires.cut; outs = omega arith; logs = omega arith }
 
 pub answer_held-requires : goal.answer_held-requires
 answer_held-requires g c =
@@ -28,9 +28,9 @@ loop-left-smaller g c =
 pub loop-left-preserved : goal.loop-left-preserved
 loop-left-preserved g c =
     let v = c.loop-left.invariant.answered in
-    let w = rw (c.loop-left.invariant.items) at c.in-Ok.ensures.held in
+    let w = rw (c.loop-left.invariant.setting) at c.in-Ok.ensures.held in
     record {
-      items = c.in-Ok.ensures.items ∙ c.loop-left.invariant.items;
+      setting = c.in-Ok.ensures.setting ∙ c.loop-left.invariant.setting;
       answered = (
         v.0 ++ take c.feed-taken.result c.loop-left.left.now,
         _,
@@ -46,4 +46,4 @@ pub returns-in-Err-clause-piece : goal.returns-in-Err-clause-piece
 returns-in-Err-clause-piece g c =
     let v = c.loop-left.invariant.answered in
     piece_stopped_by _ _ _ _ _ _ _ _ _ _ _ _ _ _ _ _ c.feed-taken.new.self _ c.args.piece.now v.0 (take c.feed-taken.result c.loop-left.left.now) (take (length c.loop-left.left.now - c.feed-taken.result) (drop c.feed-taken.result c.loop-left.left.now)) v.1 c.in-Err.stop
-    c.loop-left.invariant.items v.3 c.feed-taken.ensures.held c.feed-taken.ensures.at (parts c.args.piece.now v.0 c.loop-left.left.now c.feed-taken.result v.2) c.in-Err.ensures.held
+    c.loop-left.invariant.setting v.3 c.feed-taken.ensures.held c.feed-taken.ensures.at (parts c.args.piece.now v.0 c.loop-left.left.now c.feed-taken.result v.2) c.in-Err.ensures.held

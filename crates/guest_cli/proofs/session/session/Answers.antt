@@ -9,7 +9,7 @@ use Rattle.guest_cli.proofs.session.session.Goals as goal
 
 pub loop-turn-init : goal.loop-turn-init
 loop-turn-init g c = record {
-  items = refl;
+  setting = refl;
   answered = ([], so_far_not _ _ c.requires nothing_is_cut, ran_none _ _ _ 0 _ _);
   turns = omega arith;
   most = omega arith;
@@ -25,14 +25,14 @@ returns-in-Err-answer_piece-clause-run g c =
     let within : c.min-within.result ≤ c.in-Ok.got = omega (arith, c.min-within.ensures) in
     let few : c.loop-turn.total + length (take c.min-within.result c.read.new.out) ≤ 1073741824 = omega (arith, length-take c.min-within.result c.read.new.out, c.min-within.ensures, c.loop-turn.invariant.most) in
     rw c.ended.ensures (ends_stopped_by _ _ _ _ _ _ _ _ _ _ _ _ _ v.0 v.1 v.2 _ _ _ _ _ _ c.answer_piece.new.splitter (take c.in-Ok.got c.read.new.out) (take c.min-within.result c.read.new.out) _ c.in-Err-answer_piece.stop c.at.result
-    c.loop-turn.invariant.items c.in-Ok.ensures.given.0 (cut_piece c.read.new.out c.min-within.result c.in-Ok.got within) few c.at.ensures c.in-Err-answer_piece.ensures.piece)
+    c.loop-turn.invariant.setting c.in-Ok.ensures.given.0 (cut_piece c.read.new.out c.min-within.result c.in-Ok.got within) few c.at.ensures c.in-Err-answer_piece.ensures.piece)
 
 pub returns-then-within-got-clause-run : goal.returns-then-within-got-clause-run
 returns-then-within-got-clause-run g c =
     let v = c.loop-turn.invariant.answered in
     let room : length c.read.new.out ≡ 4096 = search rules in
     let within : c.min-within.result ≤ c.in-Ok.got = omega (arith, c.min-within.ensures) in
-    let w = rw (c.loop-turn.invariant.items) at c.in-Ok-answer_piece.ensures.piece in
+    let w = rw (c.loop-turn.invariant.setting) at c.in-Ok-answer_piece.ensures.piece in
     let piece : length (take c.min-within.result c.read.new.out) ≡ c.min-within.result = omega (arith, length-take c.min-within.result c.read.new.out, c.in-Ok.ensures.most, room) in
     let over : length (drop c.min-within.result (take c.in-Ok.got c.read.new.out)) ≡ c.in-Ok.got - c.min-within.result = omega (arith, length-drop c.min-within.result (take c.in-Ok.got c.read.new.out), length-take c.in-Ok.got c.read.new.out, c.in-Ok.ensures.most, room) in
     ends_past _ _ _ _ _ _ _ _ _ _ _ _ _ v.0 v.1 v.2 _ _ _ _ _ c.answer_piece.new.splitter (take c.in-Ok.got c.read.new.out) (take c.min-within.result c.read.new.out) (drop c.min-within.result (take c.in-Ok.got c.read.new.out)) w.0
@@ -42,12 +42,12 @@ pub loop-turn-preserved : goal.loop-turn-preserved
 loop-turn-preserved g c =
     let v = c.loop-turn.invariant.answered in
     let room : length c.read.new.out ≡ 4096 = search rules in
-    let w = rw (c.loop-turn.invariant.items) at c.in-Ok-answer_piece.ensures.piece in
+    let w = rw (c.loop-turn.invariant.setting) at c.in-Ok-answer_piece.ensures.piece in
     let same : c.in-Ok.got ≡ c.min-within.result = omega (arith, c.min-within.ensures, c.if-within-got.false) in
     let came : Consumes (g.S.Source.left c.loop-turn.input) (g.S.Source.left c.read.new.self) (take c.min-within.result c.read.new.out) = rw same at c.in-Ok.ensures.given.0 in
     let piece : length (take c.min-within.result c.read.new.out) ≡ c.min-within.result = omega (arith, length-take c.min-within.result c.read.new.out, c.in-Ok.ensures.most, room, same) in
     record {
-      items = c.in-Ok-answer_piece.ensures.items ∙ c.loop-turn.invariant.items;
+      setting = c.in-Ok-answer_piece.ensures.setting ∙ c.loop-turn.invariant.setting;
       answered = goes_on _ _ _ _ _ _ _ _ _ _ _ _ _ v.0 v.1 v.2 _ _ _ _ _ c.answer_piece.new.splitter (take c.min-within.result c.read.new.out) _ w.0 came w.1 w.2 (omega (arith, piece));
       turns = omega (arith, c.loop-turn.invariant.turns, c.if-got-eq0.false, same);
       most = omega (arith, c.min-within.ensures, c.loop-turn.invariant.most);

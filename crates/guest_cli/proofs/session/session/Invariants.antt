@@ -6,9 +6,9 @@ use Rattle.guest_cli.proofs.session.session.Given as goal
 
 abbrev pub invariant-loop-turn : goal.invariant-loop-turn
 invariant-loop-turn g l = record {
-  items : l.engine.items ≡ l.fn.engine.items;
+  setting : l.engine.setting ≡ l.fn.engine.setting;
   answered : (turns : List Turn) × SoFar (g.S.Source.left l.fn.input) (g.S.Source.left l.input) l.splitter l.total (frames_of turns)
-      × Ran l.fn.engine.items l.fn.engine.state l.engine.state (g.H.Host.told l.fn.host) (g.H.Host.told l.host) 0 (g.K.Sink.holds l.fn.out) (g.K.Sink.holds l.out) (g.L.Sink.holds l.fn.log) (g.L.Sink.holds l.log) turns;
+      × Ran l.fn.engine.setting l.fn.engine.state l.engine.state (g.H.Host.told l.fn.host) (g.H.Host.told l.host) 0 (g.K.Sink.holds l.fn.out) (g.K.Sink.holds l.out) (g.L.Sink.holds l.fn.log) (g.L.Sink.holds l.log) turns;
   turns : l.turn ≤ l.total;
   most : l.total ≤ 1073741824;
   reads : g.S.Source.faults l.fn.input ≤ g.S.Source.faults l.input;

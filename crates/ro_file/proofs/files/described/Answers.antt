@@ -25,7 +25,7 @@ pub returns-clause-answer : goal.returns-clause-answer
 returns-clause-answer c =
     let d = c.in-Ok.descriptor in
     let blocks : c.div_ceil.result ≡ block_count d.size = omega arith in
-    let made : MeasuredFile = record { file = c.args.file; size = d.size; measure = record { blocks = c.div_ceil.result; salt = d.salt; root = d.root } } in
+    let made : MeasuredFile = record { file = c.args.file; digest = c.args.digest.now; size = d.size; measure = record { blocks = c.div_ceil.result; salt = d.salt; root = d.root } } in
     ap (λ (n : ℕ). let f : MeasuredFile = record made { measure = record { blocks = n; salt = d.salt; root = d.root } } in let r : Result MeasuredFile RoFault = Ok f in r) blocks
     ∙ good c.args.file c.args.digest.now c.args.bytes.now _ _ c.if-bytes-lt256.false c.copy_from_slice.ensures.after c.digest.ensures (c.if-ne.ensures)
     d c.in-Ok.ensures.found.0 c.in-Ok.ensures.found.1 c.if-size-gt-LIMIT.false

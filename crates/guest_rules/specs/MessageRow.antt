@@ -1,0 +1,32 @@
+-- The row of a message of FUSE: its reply, its cause, and the state after it.
+use Rattle.std.specs.Prelude.{◌≡◌, ℕ, List, take, drop, Option, Some, None, Result, Ok, Err}
+use Rattle.mg_base.specs.declared.errno.Errno.{Errno}
+use Rattle.host_traits.specs.Did.{Trace}
+use Rattle.session_frames.specs.Replies.{Sent, message_sent}
+use Rattle.verity_path.specs.declared.device.Cause.{Cause}
+use Rattle.fuse_codec.specs.Message.{Message, Bad}
+use Rattle.fuse_codec.specs.Reply.{Answer, bytes_out}
+use Rattle.fuse_server.specs.State.{State as Fuse}
+use Rattle.fuse_server.specs.Aims.{Aim, says, makes, reads, aim_of, number_of}
+use Rattle.fuse_server.specs.Effects.{Next}
+use Rattle.fuse_server.specs.Rows.{FuseRow}
+use Rattle.guest_rules.specs.Machine.{World, Salted}
+
+-- where the content of a file is known, bytes that are answered are the content's from offset on, cut at its end
+abbrev pub IsSliceOf : Option Salted → ℕ → ℕ → Answer → Type 0
+IsSliceOf (Some c) offset size (bytes_out bytes) = bytes ≡ take size (drop offset c.content)
+IsSliceOf content offset size answer = Unit {0}
+
+-- the same of what a message aims at: a READ alone gives bytes of a file
+abbrev pub IsOfFile : World → Result Aim Errno → Answer → Type 0
+IsOfFile world (Ok (reads f offset size)) answer = IsSliceOf (world.file f.file) offset size answer
+IsOfFile world aim answer = Unit {0}
+
+-- A message is answered as its checks say, or by a read of a file, with the cause of a read that failed; in a world with the
+-- file's content by its bytes. The reply has the message's number, and this is the state after it.
+pub record MessageRow (world : World) (t : Trace) (m : Result Message Bad) (old new : Fuse) (sent : Sent) (cause : Option Cause) : Type 0 where
+  pub answer : Answer
+  pub sent_is : sent ≡ message_sent (number_of m) answer
+  pub row : FuseRow (aim_of old m) t answer cause
+  pub slice : IsOfFile world (aim_of old m) answer
+  pub next : Next old m answer new
