@@ -4,6 +4,9 @@ import json
 
 LONG = 3000
 
+# Lengths of pieces that stand often: a digest, and the frame of an OPEN.
+PERIODS = (32, 56)
+
 
 def length_of(data, at, period):
     """How many bytes from `at` on repeat with this period."""
@@ -29,13 +32,15 @@ def runs(data):
     """The bytes cut where a rule of a piece holds for long: pieces, in order."""
     at, plain = 0, 0
     while at < len(data):
-        count, same, pages = counted(data, at), length_of(data, at, 1), length_of(data, at, 32) // 32
+        count, same = counted(data, at), length_of(data, at, 1)
+        period = next((it for it in PERIODS if length_of(data, at, it) // it >= 3), None)
         if count >= 24:
             piece, size = {"counted": [data[at], data[at] + count]}, count
         elif same >= 24:
             piece, size = {"times": [same, {"hex": data[at:at + 1].hex()}]}, same
-        elif pages >= 3:
-            piece, size = {"times": [pages, {"hex": data[at:at + 32].hex()}]}, 32 * pages
+        elif period:
+            size = length_of(data, at, period) // period * period
+            piece = {"times": [size // period, {"hex": data[at:at + period].hex()}]}
         else:
             at += 1
             continue
