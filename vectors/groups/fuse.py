@@ -64,8 +64,9 @@ def prepared():
     ])
 
 
-# Each operation with its refusals in their order and what it answers: word, node, fields, and an error, a kind of reply, bytes, or no
-# reply. None isn't said here. Node 1 is the root, 2 and 3 are a and b, 4 isn't there; handle 1 is of a, handle 2 was of b, 3 was never given.
+# Each operation with its refusals in their order and what it answers: word, node, fields, and an error, a kind of reply with its fields,
+# bytes, or 'no reply'; None leaves it to the model. Node 1 is the root, 2 and 3 are a and b, 4 isn't there; handle 1 is of a, handle 2
+# was of b, handle 3 was never given.
 ROWS = {
     "init": [
         ("init", 0, INIT, "EPROTO"),
