@@ -1,10 +1,10 @@
-"""spec_print beside protoc: what we write is what it encodes, it decodes that to what was described, and it reads files of other spellings as we do."""
+"""Composite files beside protoc: what we write is what it encodes, it decodes that to what was described, and it reads files of other spellings as we do."""
 import codecs
 import random
 import re
 import subprocess
 
-from lib.frame import Differs, check, program, same, tool, write
+from lib.frame import Differs, check, printed, program, same, tool, write
 
 MAGIC = b"composite_disk\x1d"
 
@@ -135,7 +135,7 @@ def said(text):
     return [*components, length]
 
 
-def printed(lines):
+def read_from(lines):
     """The descriptions and files that we print."""
     found, components, length = [], [], 0
     for line in lines:
@@ -150,13 +150,12 @@ def printed(lines):
 
 
 def body():
-    ours, theirs = program("spec_print"), tool("protoc")
+    _, theirs = program("test_formats"), tool("protoc")
     write("disk.proto", PROTO)
     draw = random.Random(20)
     cases = [described(draw, count, most) for count, most in SHAPES]
     files = [spelled(draw, case[:-1], case[-1]) for case in cases]
-    out = piped([ours], "".join(f"{file.hex()}\n" for file in files).encode())
-    found = printed(out.decode().splitlines())
+    found = read_from(printed(f"composite {file.hex()}" for file in files).splitlines())
     same("the number of files", len(found), len(cases))
     for i, (case, file, (read, written)) in enumerate(zip(cases, files, found)):
         same(f"what we read from file {i}", read, case)

@@ -1,4 +1,4 @@
-"""gpt_print beside parted: it reads the entries of the disks that we write, and we read its own."""
+"""Partition tables beside parted: it reads the entries of the disks that we write, and we read its own."""
 from lib.disks import LENGTHS, blank, spoiled, table, written
 from lib.frame import check, program, run, same, tool
 
@@ -11,14 +11,14 @@ def listed(theirs, disk):
 
 
 def body():
-    ours, theirs = program("gpt_print"), tool("parted")
+    _, theirs = program("test_formats"), tool("parted")
     for lengths in LENGTHS:
-        disk, entries = written(ours, lengths)
+        disk, entries = written(lengths)
         same(f"what parted reads, {lengths}", [it[2:] for it in entries], listed(theirs, disk))
     disk = blank("their", 16)
     run(theirs, "-s", disk, "mklabel", "gpt", "mkpart", "apk", "1MiB", "2MiB", "mkpart", "idsig", "2MiB", "5MiB")
     for copy in (disk, spoiled(disk)):
-        _, entries = table(ours, copy)
+        _, entries = table(copy)
         same(f"what we read of parted's {copy}", [it[2:] for it in entries], listed(theirs, disk))
 
 

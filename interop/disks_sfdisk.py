@@ -1,4 +1,4 @@
-"""gpt_print beside sfdisk: it finds no error on the disks that we write and reads their entries, and we read its own."""
+"""Partition tables beside sfdisk: it finds no error on the disks that we write and reads their entries, and we read its own."""
 import json
 import subprocess
 
@@ -15,9 +15,9 @@ def listed(theirs, disk):
 
 
 def body():
-    ours, theirs = program("gpt_print"), tool("sfdisk")
+    _, theirs = program("test_formats"), tool("sfdisk")
     for lengths in LENGTHS:
-        disk, entries = written(ours, lengths)
+        disk, entries = written(lengths)
         said = run(theirs, "--verify", disk, quiet=True)
         same(f"sfdisk --verify, {lengths}", "No errors detected" in said, True)
         for copy in (disk, spoiled(disk)):
@@ -26,7 +26,7 @@ def body():
     script = b"label: gpt\nsize=1M, type=L, name=apk\nsize=3M, type=U, name=idsig\ntype=L\n"
     subprocess.run([theirs, "--quiet", disk], input=script, check=True, capture_output=True)
     for copy in (disk, spoiled(disk)):
-        same(f"what we read of sfdisk's {copy}", table(ours, copy), listed(theirs, disk))
+        same(f"what we read of sfdisk's {copy}", table(copy), listed(theirs, disk))
 
 
 check(body)

@@ -1,4 +1,4 @@
-"""gpt_print beside sgdisk: it finds no problem on the disks that we write and reads their entries, and we read its own."""
+"""Partition tables beside sgdisk: it finds no problem on the disks that we write and reads their entries, and we read its own."""
 from lib.disks import DISK, LENGTHS, blank, spoiled, table, written
 from lib.frame import check, program, run, same, tool
 
@@ -22,9 +22,9 @@ def listed(theirs, disk, count):
 
 
 def body():
-    ours, theirs = program("gpt_print"), tool("sgdisk")
+    _, theirs = program("test_formats"), tool("sgdisk")
     for lengths in LENGTHS:
-        disk, entries = written(ours, lengths)
+        disk, entries = written(lengths)
         said = run(theirs, "-v", disk)
         same(f"sgdisk -v, {lengths}", "No problems found" in said, True)
         for copy in (disk, spoiled(disk)):
@@ -32,7 +32,7 @@ def body():
     disk = blank("their", 16)
     run(theirs, "-n", "1:0:+1M", "-c", "1:apk", "-n", "2:0:+3M", "-c", "2:idsig", "-t", "2:ef00", "-A", "2:set:2", "-n", "3:0:0", disk)
     for copy in (disk, spoiled(disk)):
-        same(f"what we read of sgdisk's {copy}", table(ours, copy), listed(theirs, disk, 3))
+        same(f"what we read of sgdisk's {copy}", table(copy), listed(theirs, disk, 3))
 
 
 check(body)

@@ -1,9 +1,9 @@
 """Layouts of FUSE structures, the operations' numbers and the error numbers beside the kernel's headers, as a C compiler
-has them; and fuse_print on messages whose every byte tells its place."""
+has them; and what test_formats prints of messages whose every byte tells its place."""
 import os
 
-from lib.frame import Skipped, check, run, same, tool, write
-from lib.fuse import ERRNOS, OPERATIONS, STRUCTURES, layout, printed, request, told
+from lib.frame import Skipped, check, printed, run, same, tool, write
+from lib.fuse import ERRNOS, OPERATIONS, STRUCTURES, answer, layout, request
 
 HEADER = "/usr/include/linux/fuse.h"
 
@@ -50,7 +50,7 @@ def marked():
         if word == "batch_forget":
             body[0:4] = (1).to_bytes(4, "little")
         tail = {"write": b"xyz", "batch_forget": bytes(range(16))}.get(word, b"name\0" if has_name else b"")
-        yield request(opcode, bytes(body) + tail, 0x0102030405060708, 0x1112131415161718).hex()
+        yield "message " + request(opcode, bytes(body) + tail, 0x0102030405060708, 0x1112131415161718).hex()
     numbers = [0x0102030405060708, 0x1112131415161718, 0x2122232425262728, 0x3132333435363738, 0x41424344, 0x5152535455565758]
     for kind, count in (("entry", 5), ("opened", 2), ("created", 6)):
         yield f"reply {kind} " + " ".join(str(it) for it in numbers[:count])
@@ -72,7 +72,7 @@ def body():
         raise Skipped(f"{HEADER} of protocol 7.31 or later")
     same("layouts and numbers", modelled(), [it for it in lines if not it.startswith("fuse_init_in size")])
     lines = list(marked())
-    same("what is printed", told(lines), [printed(it) for it in lines])
+    same("what is printed", printed(lines).splitlines(), [answer(it) for it in lines])
 
 
 check(body)

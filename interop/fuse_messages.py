@@ -1,12 +1,13 @@
-"""fuse_print beside a model in Python: a table of messages and replies, which is its stored run, and drawn ones.
-With the word `write` it writes the stored run anew, from the model."""
+"""Messages of FUSE beside a model in Python: a table of messages and replies, which is the last part of the stored run of
+test_formats, and drawn ones. With the word `write` it writes that part anew, from the model."""
 import random
 import sys
 
-from lib.frame import TOP, check, read, same, write
-from lib.fuse import ERRNOS, HEAD, MOST, OPERATIONS, printed, put, request, size_of, told
+from lib.frame import TOP, check, printed, read, same, write
+from lib.fuse import ERRNOS, HEAD, MOST, OPERATIONS, answer, put, request, size_of
 
-STORED = f"{TOP}/crates/fuse_print"
+STORED = f"{TOP}/crates/test_formats"
+FRONT = "# Messages and replies of FUSE: the model of interop/lib/fuse.py\n"
 TOP32, TOP64 = 2**32 - 1, 2**64 - 1
 
 
@@ -87,7 +88,13 @@ def replies():
 
 def table():
     messages = [*sizes(), *opcodes(), *names(), *counts()]
-    return [it.hex() for it in messages] + [f"reply {it}" for it in replies()]
+    return [f"message {it.hex()}" for it in messages] + [f"reply {it}" for it in replies()]
+
+
+def stored():
+    """The files of the stored run, each with its lines of FUSE by the model."""
+    lines = table()
+    return ("stdin", lines), ("stdout", [answer(it) for it in lines])
 
 
 def drawn(draw):
@@ -116,23 +123,25 @@ def drawn(draw):
         body += draw.randbytes(1)
     opcode = draw.randrange(60) if draw.random() < 0.1 else opcode
     size = HEAD + len(body) + (draw.choice([-1, 1, 2**31]) if draw.random() < 0.1 else 0)
-    return request(opcode, bytes(body), draw.randrange(2**64), draw.randrange(2**64), size).hex()
+    return "message " + request(opcode, bytes(body), draw.randrange(2**64), draw.randrange(2**64), size).hex()
 
 
 def body():
-    lines = table()
-    for name, stored in (("stdin", lines), ("stdout", [printed(it) for it in lines])):
-        same(f"crates/fuse_print/{name}", read(f"{STORED}/{name}").decode().splitlines(), stored)
+    for name, wanted in stored():
+        _, _, found = read(f"{STORED}/{name}").decode().partition(FRONT)
+        same(f"crates/test_formats/{name}, from FUSE on", found.splitlines(), wanted)
     draw = random.Random(7)
-    lines += [drawn(draw) for _ in range(20_000)]
-    lines.append(request(16, put("fuse_write_in", fh=1, size=MOST) + bytes(MOST)).hex())
-    lines.append(request(16, put("fuse_write_in", fh=1, size=MOST + 1) + bytes(MOST + 1)).hex())
+    lines = [drawn(draw) for _ in range(20_000)]
+    lines.append("message " + request(16, put("fuse_write_in", fh=1, size=MOST) + bytes(MOST)).hex())
+    lines.append("message " + request(16, put("fuse_write_in", fh=1, size=MOST + 1) + bytes(MOST + 1)).hex())
     lines.append(f"reply names 7 {bytes(MOST).hex()}")
-    same("what is printed", told(lines), [printed(it) for it in lines])
+    lines += table()
+    same("what is printed", printed(lines).splitlines(), [answer(it) for it in lines])
 
 
 if sys.argv[1:] == ["write"]:
-    write(f"{STORED}/stdin", "".join(f"{it}\n" for it in table()).encode())
-    write(f"{STORED}/stdout", "".join(f"{printed(it)}\n" for it in table()).encode())
+    for name, wanted in stored():
+        before, front, _ = read(f"{STORED}/{name}").decode().partition(FRONT)
+        write(f"{STORED}/{name}", "".join([before, front, *(f"{it}\n" for it in wanted)]).encode())
 else:
     check(body)

@@ -1,5 +1,5 @@
-"""seal_print beside Python's cryptography: 200 seals of AES-256-GCM of drawn keys, nonces, heads and texts."""
-from lib.frame import Skipped, check, program, run, same
+"""Seals beside Python's cryptography: 200 of AES-256-GCM, of drawn keys, nonces, heads and texts."""
+from lib.frame import Skipped, check, printed, same
 
 CASES = 200
 
@@ -27,12 +27,15 @@ def seals():
     for _ in range(CASES):
         key, nonce, head, text = draw.bytes(32), draw.bytes(12), draw.bytes(256), draw.bytes(256)
         head_len, text_len = draw.byte(), draw.byte()
-        yield AESGCM(key).encrypt(nonce, text[:text_len], head[:head_len]).hex()
+        head, text = head[:head_len], text[:text_len]
+        sealed = AESGCM(key).encrypt(nonce, text, head)
+        words = " ".join(it.hex() or "-" for it in (key, nonce, head, text))
+        yield f"seal {words}", f"{sealed[-16:].hex()} {sealed[:-16].hex()}.\n"
 
 
 def body():
-    ours = program("seal_print")
-    same("seals", run(ours), "".join(f"{line}\n" for line in seals()))
+    lines, answers = zip(*seals())
+    same("seals", printed(lines), "".join(answers))
 
 
 check(body)

@@ -1,5 +1,5 @@
 """Disk images for the checks of partition tables."""
-from .frame import read, run, write
+from .frame import printed, read, write
 
 SECTOR = 512
 
@@ -18,10 +18,10 @@ def unique(index):
     return f"11111111-2222-4333-8444-55555555555{index}"
 
 
-def written(ours, lengths):
+def written(lengths):
     """Assembles a disk of three partitions from the ends that we write: its name, and the entries that it should have."""
-    words = [word for i, sectors in enumerate(lengths) for word in (NAMES[i], unique(i), sectors)]
-    run(ours, "head", "tail", DISK, *words)
+    words = [str(word) for i, sectors in enumerate(lengths) for word in (NAMES[i], unique(i), sectors)]
+    printed([" ".join(["write_disk head tail", DISK, *words])])
     with open("disk", "wb") as disk:
         disk.write(read("head"))
         disk.seek(ENDS + sum(lengths) * SECTOR)
@@ -33,12 +33,12 @@ def written(ours, lengths):
     return "disk", entries
 
 
-def table(ours, disk):
+def table(disk):
     """What we read from a disk: its GUID, and kind, GUID, first sector, last sector and name of each used entry."""
     data = read(disk)
     write("head", data[:ENDS])
     write("tail", data[-ENDS:])
-    first, *rest = run(ours, "head", "tail", len(data) // SECTOR).splitlines()
+    first, *rest = printed([f"read_disk head tail {len(data) // SECTOR}"]).splitlines()
     entries = []
     for line in rest:
         _, _, kind, guid, first_sector, last_sector, _, name = line.split()

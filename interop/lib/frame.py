@@ -42,6 +42,15 @@ def run(*words, quiet=False):
     return done.stdout.decode(errors="replace")
 
 
+def printed(lines):
+    """What `test_formats` prints for these lines."""
+    data = "".join(f"{line}\n" for line in lines).encode()
+    done = subprocess.run([program("test_formats")], input=data, capture_output=True, timeout=300)
+    if done.returncode != 0:
+        raise Differs(f"test_formats: status {done.returncode}: {done.stderr.decode(errors='replace')[:300]}")
+    return done.stdout.decode()
+
+
 def same(what, ours, theirs):
     """Fails with the first place where the two differ."""
     if ours == theirs:

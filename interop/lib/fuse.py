@@ -1,8 +1,5 @@
-"""A model of FUSE's messages (linux/fuse.h, protocol 7.31) as fuse_print prints them, written apart from its code."""
+"""A model of FUSE's messages (linux/fuse.h, protocol 7.31) as test_formats prints them, written apart from its code."""
 import struct
-import subprocess
-
-from lib.frame import Differs, program
 
 # The fields of each structure with their bytes; those that have no name in every edition of the header are `-`.
 STRUCTURES = {
@@ -188,15 +185,6 @@ def replied(line):
     return (put("fuse_out_header", len=16 + len(body), error=struct.pack("<i", error), unique=int(unique)) + body).hex()
 
 
-def printed(line):
-    """What fuse_print prints of a line."""
-    return replied(line) if line.startswith("reply ") else judged(bytes.fromhex(line))
-
-
-def told(lines):
-    """What fuse_print prints of these lines."""
-    data = "".join(f"{it}\n" for it in lines).encode()
-    done = subprocess.run([program("fuse_print")], input=data, capture_output=True, timeout=300)
-    if done.returncode != 0:
-        raise Differs(f"fuse_print: status {done.returncode}: {done.stderr.decode(errors='replace')[:300]}")
-    return done.stdout.decode().splitlines()
+def answer(line):
+    """What test_formats prints of a line."""
+    return replied(line) if line.startswith("reply ") else judged(bytes.fromhex(line.removeprefix("message ")))

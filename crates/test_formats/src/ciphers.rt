@@ -4,7 +4,7 @@ ghost use Rattle.std.specs.Prelude.{◌≡◌, ◌≤◌, length};
 use crate::words::bytes_of;
 use aes_core::Aes256;
 use aes_gcm::{open_in_place, seal_in_place};
-use anyhow::{Result, ensure};
+use anyhow::{Result, bail, ensure};
 use hex::FromHex;
 use key_derive::{hkdf32, hmac};
 use std::alloc::Global;
@@ -23,7 +23,7 @@ pub fn aes_line(alloc: Global, key: &str, block: &str) -> Result<String> {
     Ok(hex::encode(alloc, &block)?)
 }
 
-/// The tag of a seal of AES-256-GCM and the ciphertext's first 32 bytes, where it opens to the text again.
+/// The tag of a seal of AES-256-GCM and the ciphertext's first 256 bytes, where it opens to the text again.
 pub fn seal_line(alloc: Global, key: &str, nonce: &str, head: &str, text: &str) -> Result<String> {
     let key = <[u8; 32] as FromHex>::from_hex(key)?;
     let nonce = <[u8; 12] as FromHex>::from_hex(nonce)?;
@@ -35,7 +35,7 @@ pub fn seal_line(alloc: Global, key: &str, nonce: &str, head: &str, text: &str) 
         "at most {LIMIT} bytes"
     );
     let tag = seal_in_place(&key, &nonce, head.as_slice(), text.as_mut_slice());
-    let front = text.as_slice().get(..32).unwrap_or(text.as_slice());
+    let front = text.as_slice().get(..256).unwrap_or(text.as_slice());
     let (printed, front) = (hex::encode(alloc, &tag)?, hex::encode(alloc, front)?);
     let opened = open_in_place(&key, &nonce, head.as_slice(), text.as_mut_slice(), &tag);
     ensure!(
@@ -43,6 +43,59 @@ pub fn seal_line(alloc: Global, key: &str, nonce: &str, head: &str, text: &str) 
         "a seal that does not open"
     );
     Ok(format!(in alloc; "{printed} {front}.")?)
+}
+
+// The nonce of a number.
+fn nonce_of(count: u64) -> [u8; 12] {
+    let mut nonce = [0u8; 12];
+    nonce[..8].copy_from_slice(&count.to_le_bytes());
+    nonce
+}
+
+// Seals a text of zeros so many times.
+fn seal_times(rt: &HostRuntime, len: usize, times: u64) -> Result<()>
+    requires { len ≤ 65536 }
+{
+    let mut text = vec![in rt.alloc(); 0u8; len]?;
+    let mut tag = [0u8; 16];
+    for count in 0..times {
+        tag = seal_in_place(&[7; 32], &nonce_of(count), &[], text.as_mut_slice());
+    }
+    let printed = hex::encode(rt.alloc(), &tag)?;
+    println!(rt; "{printed}")?;
+    Ok(())
+}
+
+// Opens a seal of zeros so many times.
+fn open_times(rt: &HostRuntime, len: usize, times: u64) -> Result<()>
+    requires { len ≤ 65536 }
+{
+    let mut sealed = vec![in rt.alloc(); 0u8; len]?;
+    let nonce = nonce_of(0);
+    let tag = seal_in_place(&[7; 32], &nonce, &[], sealed.as_mut_slice());
+    let mut text = vec![in rt.alloc(); 0u8; len]?;
+    for _ in 0..times {
+        text.as_mut_slice().copy_from_slice(sealed.as_slice());
+        ensure!(
+            open_in_place(&[7; 32], &nonce, &[], text.as_mut_slice(), &tag).is_ok(),
+            "a seal that does not open"
+        );
+    }
+    let printed = hex::encode(rt.alloc(), &tag)?;
+    println!(rt; "{printed}")?;
+    Ok(())
+}
+
+/// The tag of a text of so many bytes that is sealed or opened so many times.
+pub fn print_times(rt: &HostRuntime, word: &str, len: &str, times: &str) -> Result<()> {
+    let len = len.parse::<usize>()?;
+    let times = times.parse::<u64>()?;
+    ensure!(len <= LIMIT, "a text has at most {LIMIT} bytes");
+    match word {
+        "seal" => seal_times(rt, len, times),
+        "open" => open_times(rt, len, times),
+        _ => bail!("no such case"),
+    }
 }
 
 // Does a seal with these parts open, or leave its text changed?

@@ -1,5 +1,5 @@
 // What cursors, pages, salts and trees answer.
-use crate::words::bytes_of;
+use crate::words::{bytes_of, salt_of};
 use anyhow::{Result, bail, ensure};
 use guid_crc::crc32;
 use mg_base::{Cursor, Page, Salt, pad_into};
@@ -75,9 +75,7 @@ fn fed(alloc: Global, salt: Salt, bytes: &[u8], piece: usize) -> Result<Tree> {
 pub fn tree_line(alloc: Global, bytes: &str, piece: &str, salt: &str) -> Result<String> {
     let bytes = bytes_of(alloc, bytes)?;
     let piece = piece.parse::<usize>()?;
-    let Some(salt) = Salt::new(bytes_of(alloc, salt)?.as_slice()) else {
-        bail!("a salt has at most 32 bytes");
-    };
+    let salt = salt_of(alloc, salt)?;
     let tree = fed(alloc, salt, bytes.as_slice(), piece)?;
     let root = hex::encode(alloc, &tree.root.0)?;
     let len = tree.stored.len();

@@ -2,15 +2,25 @@
 //! one line each on standard output. A line that begins with `#` says where the values below it come from, and is printed as it is.
 #![tactic(auto)]
 
+mod asked;
 mod ciphers;
+mod composites;
+mod disks;
+mod files;
 mod low;
 mod memory;
+mod messages;
 mod readers;
+mod replies;
 mod words;
 
-use crate::ciphers::{aes_line, changed_line, hkdf_line, hmac_line, seal_line};
+use crate::ciphers::{aes_line, changed_line, hkdf_line, hmac_line, print_times, seal_line};
+use crate::composites::print_composite;
+use crate::disks::{print_table, write_disk};
+use crate::files::{print_pages, print_tree};
 use crate::low::{numbers_line, page_line, places_line, salt_line, tree_line};
 use crate::memory::{answer_line, folder_line, sink_line, source_line};
+use crate::messages::{print_message, print_reply};
 use crate::readers::{crc_line, descriptor_line, frame_line, guid_line, idsig_line, idsig_of_line};
 use anyhow::{Result, bail};
 use std::alloc::Global;
@@ -45,6 +55,25 @@ fn outcome(alloc: Global, words: &[&str]) -> Result<String> {
     }
 }
 
+// Prints what the call that these words name answers, in one line or more.
+fn print(rt: &HostRuntime, words: &[&str]) -> Result<()> {
+    match words {
+        ["pages", file] => print_pages(rt, *file),
+        ["file_tree", file, salt, out @ ..] => print_tree(rt, *file, *salt, out),
+        ["write_disk", head, tail, disk, parts @ ..] => write_disk(rt, *head, *tail, *disk, parts),
+        ["read_disk", head, tail, sectors] => print_table(rt, *head, *tail, *sectors),
+        ["composite", bytes] => print_composite(rt, *bytes),
+        ["message", bytes] => print_message(rt, *bytes),
+        ["reply", reply @ ..] => print_reply(rt, reply),
+        ["times", word, len, times] => print_times(rt, *word, *len, *times),
+        _ => {
+            let outcome = outcome(rt.alloc(), words)?;
+            println!(rt; "{outcome}")?;
+            Ok(())
+        }
+    }
+}
+
 fn main(rt: HostRuntime) -> Result<()> {
     let lines = BufReader::new(rt.alloc(), rt.reader())?.lines(rt.alloc());
     for line in lines {
@@ -54,8 +83,7 @@ fn main(rt: HostRuntime) -> Result<()> {
             continue;
         }
         let words: Vec<&str> = line.as_str().split_whitespace().collect(rt.alloc())?;
-        let outcome = outcome(rt.alloc(), words.as_slice())?;
-        println!(rt; "{outcome}")?;
+        print(&rt, words.as_slice())?;
     }
     Ok(())
 }

@@ -1,12 +1,12 @@
 // What the readers of binary formats answer.
 ghost use Rattle.std.specs.Prelude.{◌≡◌, ◌≤◌, ◌^◌, length};
 
-use crate::words::bytes_of;
+use crate::words::{bytes_of, salt_of};
 use anyhow::{Result, bail, ensure};
 use guid_crc::{crc32, from_disk, read_guid, to_disk};
 use hex::FromHex;
 use idsig_v4::{read_head, write_idsig};
-use mg_base::{Digest, Salt};
+use mg_base::Digest;
 use session_frames::{Next, Splitter};
 use std::alloc::Global;
 use verity_descriptor::{decode, encode, file_digest};
@@ -80,9 +80,7 @@ pub fn idsig_of_line(
     signing: &str,
     tree: &str,
 ) -> Result<String> {
-    let Some(salt) = Salt::new(bytes_of(alloc, salt)?.as_slice()) else {
-        bail!("a salt has at most 32 bytes");
-    };
+    let salt = salt_of(alloc, salt)?;
     let root = Digest(<[u8; 32] as FromHex>::from_hex(root)?);
     let signing = bytes_of(alloc, signing)?;
     let tree = bytes_of(alloc, tree)?;

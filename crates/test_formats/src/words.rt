@@ -1,5 +1,6 @@
 // Bytes as a word says them.
 use anyhow::{Result, bail};
+use mg_base::Salt;
 use std::alloc::Global;
 
 const LIMIT: usize = 134_217_728;
@@ -49,4 +50,12 @@ pub fn bytes_of(alloc: Global, word: &str) -> Result<Vec<u8>> {
         put_piece(alloc, &mut bytes, piece)?;
     }
     Ok(bytes)
+}
+
+/// The salt of a word.
+pub fn salt_of(alloc: Global, word: &str) -> Result<Salt> {
+    match Salt::new(bytes_of(alloc, word)?.as_slice()) {
+        Some(salt) => Ok(salt),
+        None => bail!("a salt has at most 32 bytes"),
+    }
 }
