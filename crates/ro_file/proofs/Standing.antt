@@ -12,7 +12,6 @@ use Rattle.sha_tree.specs.Tree.{block_count, root, page, pages_at}
 use Rattle.sha_tree.specs.Path.{NoClash}
 use Rattle.sha_tree.proofs.Pages.{length-page_hash}
 use Rattle.verity_path.specs.Pieces.{IsHashed}
-use Rattle.verity_path.proofs.Pieces.{piece_left}
 use Rattle.verity_path.proofs.Ranges.{cut_content}
 use Rattle.verity_path.proofs.Blaming.{mismatch_lies}
 use Rattle.verity_descriptor.specs.declared.Descriptor.{Descriptor}
@@ -20,9 +19,9 @@ use Rattle.verity_descriptor.specs.declared.DescriptorFault.{DescriptorFault}
 use Rattle.verity_descriptor.specs.Spelling.{IsDescriptor, descriptor_bytes, decoded}
 use Rattle.verity_descriptor.proofs.Laws.{again}
 use Rattle.ro_file.specs.Files.{MeasuredFile, layout_of, file_of}
-use Rattle.ro_file.specs.Opening.{WasOpened, IsOpened}
+use Rattle.ro_file.specs.Opening.{WasOpened}
 use Rattle.ro_file.proofs.Rules.{same_bytes, good}
-use Rattle.ro_file.specs.Contents.{descriptor_of, IsFileMeasured, IsFileHashed, IsContentOf, IsFileContent, FilesAreMeasured, FileReadsAreSlices, FileMismatchesLie, DescriptorsOpen}
+use Rattle.ro_file.specs.Contents.{AreAmong, descriptor_of, IsFileMeasured, IsFileHashed, IsContentOf, IsFileContent, FilesAreMeasured, FileReadsAreSlices, FileMismatchesLie, DescriptorsOpen}
 
 -- descriptors that are spelled alike are one
 ok_same : (d e : Descriptor) (f : Result Descriptor DescriptorFault) → f ≡ Ok d → f ≡ Ok e → d ≡ e
@@ -82,17 +81,19 @@ are_measured file digest heard f content salt w c =
     subst (λ (g : MeasuredFile). IsContentOf g content salt) (sym w.describes.file_is) (file_is file digest d content salt is)
 
 -- what is hashed where the pages are read is hashed where the file is opened and read
-pub pages_apart : (digest : Digest) (heard : Exchanges) (f : MeasuredFile) (content salt : List ℕ) → IsContentOf f content salt → IsFileContent digest heard f content salt
-    → NoClash (IsHashed heard content f.measure.salt)
-pages_apart digest heard f content salt is c = λ x y hx hy. c.no_clash x y (hashed x hx) (hashed y hy) where
-  hashed : (x : List ℕ) → IsHashed heard content f.measure.salt x → IsFileHashed heard f.measure.salt content salt x
-  hashed x (inl seen) = inl seen
+pages_apart : (digest : Digest) (own heard : Exchanges) (f : MeasuredFile) (content salt : List ℕ) → AreAmong own heard → IsContentOf f content salt → IsFileContent digest heard f content salt
+    → NoClash (IsHashed own content f.measure.salt)
+pages_apart digest own heard f content salt among is c = λ x y hx hy. c.no_clash x y (hashed x hx) (hashed y hy) where
+  hashed : (x : List ℕ) → IsHashed own content f.measure.salt x → IsFileHashed heard f.measure.salt content salt x
+  hashed x (inl seen) =
+      let p = seen.piece in
+      inl (record { p = seen.p; piece = record { call = p.call; said = p.said; was_heard = among p.call p.said p.was_heard; piece = p.piece }; is = seen.is })
   hashed x (inr input) = inr (inr (inl (rw is.salt_is at input)))
 
 pub reads_are_slices : FileReadsAreSlices
-reads_are_slices file digest heard f content salt w c offset len bytes cut =
+reads_are_slices file digest heard f content salt w c own among offset len bytes cut =
     let is = are_measured file digest heard f content salt w c in
-    cut_content f.measure heard content f.size offset len bytes is.tree (pages_apart digest heard f content salt is c) is.size cut
+    cut_content f.measure own content f.size offset len bytes is.tree (pages_apart digest own heard f content salt among is c) is.size cut
 
 -- there are no pages over no blocks
 no_pages : (level : ℕ) → pages_at 0 level ≡ 0
@@ -105,10 +106,10 @@ some_blocks zero level i h = absurd (omega (arith, no_pages level))
 some_blocks (suc n) level i h = omega arith
 
 pub lies : FileMismatchesLie
-lies file digest t f content salt w c x m =
-    let is = are_measured file digest t.heard f content salt w c in
+lies file digest heard f content salt w c t among x m =
+    let is = are_measured file digest heard f content salt w c in
     let some : 0 < f.measure.blocks = some_blocks f.measure.blocks x.level x.index m.expected.index in
-    let other = mismatch_lies (layout_of f) f.measure t x content is.tree some (pages_apart digest t.heard f content salt is c) m in
+    let other = mismatch_lies (layout_of f) f.measure t x content is.tree some (pages_apart digest t.heard heard f content salt among is c) m in
     λ same. other (same ∙ ap (λ (s : List ℕ). page content s x.level x.index) (sym is.salt_is))
 
 pub open_whole : DescriptorsOpen
@@ -117,27 +118,9 @@ open_whole file digest d h few same =
     let passes : false ≡ not (pointwise nat_eq (sha256 (descriptor_bytes d)) digest.0) = rw (same_bytes _ _ (sym same)) refl in
     sym (good file digest (descriptor_bytes d) (descriptor_bytes d) (sha256 (descriptor_bytes d)) whole refl refl passes d h refl few)
 
--- a file that was opened was opened by what is heard afterwards too
-pub was_opened : (file : ℕ) (digest : Digest) (t : Trace) (heard : Exchanges) (f : MeasuredFile) → IsOpened file digest t f → WasOpened file digest (t.own ++ heard) f
-was_opened file digest t heard f o = record {
-  bytes = o.bytes;
-  was_heard = rw o.own (inl refl);
-  describes = o.describes;
-}
-
+-- a file that was opened was opened by more that was heard
 pub opened_left : (file : ℕ) (digest : Digest) (x y : Exchanges) (f : MeasuredFile) → WasOpened file digest x f → WasOpened file digest (x ++ y) f
 opened_left file digest x y f w = record { bytes = w.bytes; was_heard = in_left _ _ x y w.was_heard; describes = w.describes }
 
 pub opened_right : (file : ℕ) (digest : Digest) (x y : Exchanges) (f : MeasuredFile) → WasOpened file digest y f → WasOpened file digest (x ++ y) f
 opened_right file digest x y f w = record { bytes = w.bytes; was_heard = in_right _ _ x y w.was_heard; describes = w.describes }
-
--- a content of a file, where more was heard, is one where less was
-pub content_left : (digest : Digest) (x y : Exchanges) (f : MeasuredFile) (content salt : List ℕ) → IsFileContent digest (x ++ y) f content salt → IsFileContent digest x f content salt
-content_left digest x y f content salt c = record {
-  measured = c.measured;
-  no_clash = λ a b ha hb. c.no_clash a b (more a ha) (more b hb);
-} where
-  more : (a : List ℕ) → IsFileHashed x f.measure.salt content salt a → IsFileHashed (x ++ y) f.measure.salt content salt a
-  more a (inl s) = inl (record { p = s.p; piece = piece_left x y s.p s.piece; is = s.is })
-  more a (inr (inl d)) = inr (inl (record { file = d.file; was_heard = in_left _ _ x y d.was_heard; whole = d.whole }))
-  more a (inr (inr rest)) = inr (inr rest)

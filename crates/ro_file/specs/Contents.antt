@@ -1,8 +1,10 @@
 -- Contents of a file's digest, and what an opened file and its reads say of them.
-use Rattle.std.specs.Prelude.{◌≡◌, ◌≢◌, ◌⊎◌, ℕ, ◌^◌, ◌<◌, ◌≤◌, List, length, Some, None, Ok}
+use Rattle.std.specs.Prelude.{◌≡◌, ◌≢◌, ◌⊎◌, ℕ, ◌^◌, ◌<◌, ◌≤◌, List, length, take, drop, Ok}
 use Rattle.sha2.specs.Sha256.{sha256}
 use Rattle.mg_base.specs.declared.values.Digest.{Digest}
+use Rattle.host_traits.specs.declared.calls.Call.{Call}
 use Rattle.host_traits.specs.declared.calls.Call.TheVariants.{Descriptor as DescriptorOf}
+use Rattle.host_traits.specs.declared.calls.Said.{Said}
 use Rattle.host_traits.specs.declared.calls.Said.TheVariants.{Bytes}
 use Rattle.host_traits.specs.Told.{Exchanges}
 use Rattle.host_traits.specs.Did.{IsIn, Trace}
@@ -10,7 +12,7 @@ use Rattle.sha_tree.specs.Tree.{root, padded, page}
 use Rattle.sha_tree.specs.Measured.{HasTree}
 use Rattle.sha_tree.specs.Path.{IsInput, NoClash}
 use Rattle.verity_path.specs.Pieces.{IsSeen}
-use Rattle.verity_path.specs.Range.{IsSlice}
+use Rattle.verity_path.specs.Range.{IsCut, end_of}
 use Rattle.verity_path.specs.Walk.{IsMismatch}
 use Rattle.verity_path.specs.declared.states.Mismatch.{Mismatch}
 use Rattle.verity_descriptor.specs.declared.Descriptor.{Descriptor}
@@ -57,16 +59,21 @@ abbrev pub FilesAreMeasured : Type 0
 FilesAreMeasured = (file : ℕ) (digest : Digest) (heard : Exchanges) (f : MeasuredFile) (content salt : List ℕ) →
     WasOpened file digest heard f → IsFileContent digest heard f content salt → IsContentOf f content salt
 
--- Bytes of an opened file that are cut from pages tied to its root are the slice of each such content, cut at its end.
+-- each answer of the one was heard in the other
+abbrev pub AreAmong : Exchanges → Exchanges → Type 0
+AreAmong own heard = (call : Call) (said : Said) → IsIn call said own → IsIn call said heard
+
+-- Bytes of an opened file that a read cut from pages tied to its root by its own answers, which are among those that were heard, are
+-- the slice of each such content, cut at its end.
 abbrev pub FileReadsAreSlices : Type 0
 FileReadsAreSlices = (file : ℕ) (digest : Digest) (heard : Exchanges) (f : MeasuredFile) (content salt : List ℕ) →
-    WasOpened file digest heard f → IsFileContent digest heard f content salt → (offset len : ℕ) (bytes : List ℕ) →
-    IsSlice None heard f.measure f.size offset len bytes → IsSlice (Some content) heard f.measure f.size offset len bytes
+    WasOpened file digest heard f → IsFileContent digest heard f content salt → (own : Exchanges) → AreAmong own heard →
+    (offset len : ℕ) (bytes : List ℕ) → IsCut own f.measure offset (end_of f.size offset len) bytes → bytes ≡ take len (drop offset content)
 
--- The answer at which a mismatch was found in a read of an opened file is, padded to a page, not the page of such a content.
+-- The answer at which a mismatch was found in such a read is, padded to a page, not the page of such a content.
 abbrev pub FileMismatchesLie : Type 0
-FileMismatchesLie = (file : ℕ) (digest : Digest) (t : Trace) (f : MeasuredFile) (content salt : List ℕ) →
-    WasOpened file digest t.heard f → IsFileContent digest t.heard f content salt → (x : Mismatch) →
+FileMismatchesLie = (file : ℕ) (digest : Digest) (heard : Exchanges) (f : MeasuredFile) (content salt : List ℕ) →
+    WasOpened file digest heard f → IsFileContent digest heard f content salt → (t : Trace) → AreAmong t.heard heard → (x : Mismatch) →
     (w : IsMismatch (layout_of f) f.measure t x) → padded w.bytes ≢ page content salt x.level x.index
 
 -- What spells a descriptor of at most 2 ^ 32 bytes opens by its own digest.
