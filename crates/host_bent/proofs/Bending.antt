@@ -10,7 +10,7 @@ use Rattle.host_traits.specs.Told.{Told, Asked, Answered, Refused, Unheard}
 use Rattle.host_traits.proofs.Talking.{asked_one, unheard}
 use Rattle.host_bent.specs.declared.bends.Bend.{Bend}
 use Rattle.host_bent.specs.declared.bends.Bend.TheVariants.{Fail, Number, Bytes, Flip}
-use Rattle.host_mem.specs.Mem.{Mem, mem_told, FailsBy, IsNumbered}
+use Rattle.host_mem.specs.Mem.{Mem, mem_told, FailsBy, Tells}
 use Rattle.host_bent.specs.Bent.{BendCount, IsBent, bend_at, bent_by, count_told, ended, is_flip, said_as}
 
 -- an answer in the words of all calls
@@ -25,7 +25,7 @@ fails_as call given said (Err Failed) h is = is
 fails_as call given said (Err Memory) h is = is
 
 -- what the count tells after a call
-pub tells : {T : Type 0} (call : Call) (given : List ℕ) (said : T → Said) (r : Result T HostError) (a b : BendCount) → a.faults < 2 ^ 64 → b ≡ ended call (said_as said r) a → Asked call given said r (count_told a) (count_told b)
+tells : {T : Type 0} (call : Call) (given : List ℕ) (said : T → Said) (r : Result T HostError) (a b : BendCount) → a.faults < 2 ^ 64 → b ≡ ended call (said_as said r) a → Asked call given said r (count_told a) (count_told b)
 tells call given said (Ok x) a b small is =
     subst (λ z. Answered call given (said x) (count_told a) (count_told z)) (sym is)
     (asked_one call given (Some (said x)) (count_told a) (count_told (ended call (Ok (said x)) a)) (omega arith) (omega arith) refl refl refl refl refl tt refl refl)
@@ -37,12 +37,13 @@ tells call given said (Err Memory) a b small is =
 
 -- the host behind was asked, and its answer was bent
 pub is_bent : {T U : Type 0} (most : ℕ) (call : Call) (given : List ℕ) (own_said : U → Said) (said : T → Said) (own : Result U HostError) (r : Result T HostError) (h k : Mem) (a b : BendCount)
-    → Asked call given own_said own (mem_told h) (mem_told k) → FailsBy call given own h → IsNumbered h.count k.count → said_as said r ≡ bent_by most (bend_at a.bends a.calls) (said_as own_said own) → b ≡ ended call (said_as said r) a
+    → Tells call given own_said own h k → a.faults < 2 ^ 64 → said_as said r ≡ bent_by most (bend_at a.bends a.calls) (said_as own_said own) → b ≡ ended call (said_as said r) a
     → IsBent most call given said r (record { host = h; count = a }) (record { host = k; count = b })
-is_bent most call given own_said said own r h k a b asked fails counts bent counted = record {
+is_bent most call given own_said said own r h k a b t small bent counted = record {
+  told = tells call given said r a b small counted;
   own = said_as own_said own;
-  asked = asked_as call given own_said own (mem_told h) (mem_told k) asked;
-  passed = inl (counts, fails_as call given own_said own h fails);
+  asked = asked_as call given own_said own (mem_told h) (mem_told k) t.asked;
+  passed = inl (t.counts, fails_as call given own_said own h t.fails);
   bent = bent;
   counted = counted;
 }
@@ -54,10 +55,10 @@ flip_keeps most (Some (Number n)) is = absurd (false≢true is)
 flip_keeps most (Some (Bytes bytes)) is = absurd (false≢true is)
 flip_keeps most (Some (Flip place)) is = refl
 
+no_room_tells : (call : Call) (a b : BendCount) → b ≡ ended call (Err Memory) a → Unheard (count_told a) (count_told b)
+no_room_tells call a b is = subst (λ z. Unheard (count_told a) (count_told z)) (sym is) (unheard (count_told a) refl)
+
 -- there was no room for the bytes to be flipped
 pub no_room_bent : {T : Type 0} (most : ℕ) (call : Call) (given : List ℕ) (said : T → Said) (h : Mem) (a b : BendCount) → is_flip (bend_at a.bends a.calls) ≡ true → b ≡ ended call (Err Memory) a
     → IsBent {T = T} most call given said (Err Memory) (record { host = h; count = a }) (record { host = h; count = b })
-no_room_bent most call given said h a b is counted = record { own = Err Memory; asked = unheard (mem_told h) refl; passed = inr (refl, is, refl); bent = flip_keeps most (bend_at a.bends a.calls) is; counted = counted }
-
-pub no_room_tells : (call : Call) (a b : BendCount) → b ≡ ended call (Err Memory) a → Unheard (count_told a) (count_told b)
-no_room_tells call a b is = subst (λ z. Unheard (count_told a) (count_told z)) (sym is) (unheard (count_told a) refl)
+no_room_bent most call given said h a b is counted = record { told = no_room_tells call a b counted; own = Err Memory; asked = unheard (mem_told h) refl; passed = inr (refl, is, refl); bent = flip_keeps most (bend_at a.bends a.calls) is; counted = counted }

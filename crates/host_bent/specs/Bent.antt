@@ -93,9 +93,10 @@ IsPassed call given own old new =
     (IsNumbered old.host.count new.host.count × FailsBy call given own old.host)
     ⊎ ((own ≡ Err Memory) × (is_flip (bend_at old.count.bends old.count.calls) ≡ true) × (new.host ≡ old.host))
 
--- The host behind answered, as its own contract says, and this is its answer bent by what is listed for the call's
--- number. Where there was no room for the bytes to be flipped, the host behind wasn't asked, and the answer is out of memory.
+-- The answer is told. The host behind answered, as its own contract says, and this is its answer bent by what is listed for
+-- the call's number. Where there was no room for the bytes to be flipped, the host behind wasn't asked, and the answer is out of memory.
 pub record IsBent {T : Type 0} (most : ℕ) (call : Call) (given : List ℕ) (said : T → Said) (result : Result T HostError) (old new : BentMem) : Type 0 where
+  pub told : Asked call given said result (bent_told old) (bent_told new)
   pub own : Result Said HostError
   pub asked : Asked call given (λ s. s) own (mem_told old.host) (mem_told new.host)
   pub passed : IsPassed call given own old new

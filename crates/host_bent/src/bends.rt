@@ -5,7 +5,7 @@ ghost use Rattle.host_traits.specs.declared.calls.Said.TheVariants.{Number as Sa
 ghost use Rattle.host_traits.specs.Told.{Fills};
 ghost use Rattle.host_bent.specs.Bent.{HasRoom, bend_at, bent_by, counted, ended, flipped, is_flip, said_as};
 
-use host_traits::{Call, HostError, Raw};
+use host_traits::{Call, HostError, HostResult, Raw};
 use mg_base::Memory;
 use std::alloc::Global;
 use std::marker::Model;
@@ -37,7 +37,7 @@ fn find(bends: &[(u64, Bend)], number: u64) -> Option<&Bend>
 }
 
 // A number, bent.
-fn bent_number(bend: Option<&Bend>, own: Result<u64, HostError>) -> Result<u64, HostError>
+fn bent_number(bend: Option<&Bend>, own: HostResult<u64>) -> HostResult<u64>
     ensures { said_as (λ n. SaidNumber n) result ≡ bent_by 0 (option_map (λ b. b.now) bend.entry)
         (said_as (λ n. SaidNumber n) own) }
 {
@@ -54,7 +54,7 @@ fn bent_number(bend: Option<&Bend>, own: Result<u64, HostError>) -> Result<u64, 
 }
 
 // An answer that has no bytes and no number, bent.
-fn bent_done(bend: Option<&Bend>, own: Result<(), HostError>) -> Result<(), HostError>
+fn bent_done(bend: Option<&Bend>, own: HostResult<()>) -> HostResult<()>
     ensures { said_as (λ _. SaidDone) result ≡ bent_by 0 (option_map (λ b. b.now) bend.entry)
         (said_as (λ _. SaidDone) own) }
 {
@@ -87,9 +87,9 @@ fn bent_bytes(
     bend: Option<&Bend>,
     most: usize,
     room: Vec<u8>,
-    own: Result<(), HostError>,
+    own: HostResult<()>,
     raw: &mut Raw,
-) -> Result<(), HostError>
+) -> HostResult<()>
     requires most { most ≤ 69632 }
     requires room { HasRoom (option_map (λ b. b.now) bend) most room }
     requires fills { Fills most own raw.old }
@@ -193,11 +193,7 @@ impl Bends {
     }
 
     /// Bends the answer of a call that gives a number, and counts the call.
-    pub(crate) fn number(
-        &mut self,
-        call: Call,
-        own: Result<u64, HostError>,
-    ) -> Result<u64, HostError>
+    pub(crate) fn number(&mut self, call: Call, own: HostResult<u64>) -> HostResult<u64>
         ensures bent { said_as (λ n. SaidNumber n) result
             ≡ bent_by 0 (bend_at self.old.bends self.old.calls) (said_as (λ n. SaidNumber n) own) }
         ensures ended { self.new ≡ ended call (said_as (λ n. SaidNumber n) result) self.old }
@@ -209,7 +205,7 @@ impl Bends {
     }
 
     /// Bends the answer of a call that gives nothing, and counts the call.
-    pub(crate) fn done(&mut self, call: Call, own: Result<(), HostError>) -> Result<(), HostError>
+    pub(crate) fn done(&mut self, call: Call, own: HostResult<()>) -> HostResult<()>
         ensures bent { said_as (λ _. SaidDone) result
             ≡ bent_by 0 (bend_at self.old.bends self.old.calls) (said_as (λ _. SaidDone) own) }
         ensures ended { self.new ≡ ended call (said_as (λ _. SaidDone) result) self.old }
@@ -226,9 +222,9 @@ impl Bends {
         call: Call,
         most: usize,
         room: Vec<u8>,
-        own: Result<(), HostError>,
+        own: HostResult<()>,
         raw: &mut Raw,
-    ) -> Result<(), HostError>
+    ) -> HostResult<()>
         requires most { most ≤ 69632 }
         requires room { HasRoom (bend_at self.old.bends self.old.calls) most room }
         requires fills { Fills most own raw.old }

@@ -2,12 +2,12 @@
 ghost use Rattle.std.specs.Prelude.{◌≡◌, ◌≤◌, ◌+◌, ◌*◌, ◌/◌, ◌%◌, ◌^◌, List, ℕ, [], length, None};
 ghost use Rattle.host_traits.specs.declared.calls.Call.TheVariants.{BlockSize, BlockRead, BlockWrite, BlockSync, FileRead, TreeRead, Descriptor, FileWrite, TreeWrite, Resize, Create, Mkdir, Delete};
 ghost use Rattle.host_traits.specs.declared.calls.Said.TheVariants.{Number, Bytes, Done};
-ghost use Rattle.host_traits.specs.Told.{Asked, Fills, Told, IsHeardSize};
+ghost use Rattle.host_traits.specs.Told.{Fills, Told, IsHeardSize};
 ghost use Rattle.host_bent.specs.Bent.{IsBent, bent_told};
 
 use crate::bends::{Bend, Bends};
 use host_mem::MemHost;
-use host_traits::{Call, Host, HostError, Raw};
+use host_traits::{Call, Host, HostError, HostResult, Raw};
 use std::marker::Model;
 
 /// A host in memory whose answers to listed calls are bent. Calls are numbered from 0; the first bend
@@ -47,25 +47,15 @@ impl Bent {
 impl Host for Bent {
     ghost told = { λ b. bent_told b };
 
-    fn block_size(&mut self, disk: u32) -> Result<u64, HostError>
-        ensures asked { Asked (BlockSize disk) [] (λ n. Number n) result (bent_told self.old)
-            (bent_told self.new) }
+    fn block_size(&mut self, disk: u32) -> HostResult<u64>
         ensures bent { IsBent 0 (BlockSize disk) [] (λ n. Number n) result self.old self.new }
     {
         let own = self.host.block_size(disk);
         self.bends.number(Call::BlockSize { disk }, own)
     }
 
-    fn block_read(
-        &mut self,
-        disk: u32,
-        sector: u64,
-        count: u32,
-        raw: &mut Raw,
-    ) -> Result<(), HostError>
+    fn block_read(&mut self, disk: u32, sector: u64, count: u32, raw: &mut Raw) -> HostResult<()>
         requires { count ≤ 136 }
-        ensures asked { Asked (BlockRead disk sector count) [] (λ _. Bytes raw.new) result
-            (bent_told self.old) (bent_told self.new) }
         ensures fills { Fills (512 * count) result raw.new }
         ensures bent { IsBent (512 * count) (BlockRead disk sector count) [] (λ _. Bytes raw.new)
             result self.old self.new }
@@ -87,11 +77,9 @@ impl Host for Bent {
         self.bends.bytes(call, 512 * count as usize, room, own, raw)
     }
 
-    fn block_write(&mut self, disk: u32, sector: u64, bytes: &[u8]) -> Result<(), HostError>
+    fn block_write(&mut self, disk: u32, sector: u64, bytes: &[u8]) -> HostResult<()>
         requires whole { length bytes.now % 512 ≡ 0 }
         requires most { length bytes.now ≤ 69632 }
-        ensures asked { Asked (BlockWrite disk sector (length bytes.now / 512)) bytes.now
-            (λ _. Done) result (bent_told self.old) (bent_told self.new) }
         ensures bent { IsBent 0 (BlockWrite disk sector (length bytes.now / 512)) bytes.now
             (λ _. Done) result self.old self.new }
     {
@@ -106,19 +94,15 @@ impl Host for Bent {
         )
     }
 
-    fn block_sync(&mut self, disk: u32) -> Result<(), HostError>
-        ensures asked { Asked (BlockSync disk) [] (λ _. Done) result (bent_told self.old)
-            (bent_told self.new) }
+    fn block_sync(&mut self, disk: u32) -> HostResult<()>
         ensures bent { IsBent 0 (BlockSync disk) [] (λ _. Done) result self.old self.new }
     {
         let own = self.host.block_sync(disk);
         self.bends.done(Call::BlockSync { disk }, own)
     }
 
-    fn file_read(&mut self, file: u32, at: u64, want: u32, raw: &mut Raw) -> Result<(), HostError>
+    fn file_read(&mut self, file: u32, at: u64, want: u32, raw: &mut Raw) -> HostResult<()>
         requires { want ≤ 69632 }
-        ensures asked { Asked (FileRead file at want) [] (λ _. Bytes raw.new) result
-            (bent_told self.old) (bent_told self.new) }
         ensures fills { Fills (want) result raw.new }
         ensures bent { IsBent (want) (FileRead file at want) [] (λ _. Bytes raw.new) result self.old
             self.new }
@@ -136,15 +120,7 @@ impl Host for Bent {
         self.bends.bytes(call, want as usize, room, own, raw)
     }
 
-    fn file_tree_read(
-        &mut self,
-        file: u32,
-        level: u32,
-        index: u64,
-        raw: &mut Raw,
-    ) -> Result<(), HostError>
-        ensures asked { Asked (TreeRead file level index) [] (λ _. Bytes raw.new) result
-            (bent_told self.old) (bent_told self.new) }
+    fn file_tree_read(&mut self, file: u32, level: u32, index: u64, raw: &mut Raw) -> HostResult<()>
         ensures fills { Fills (4096) result raw.new }
         ensures bent { IsBent (4096) (TreeRead file level index) [] (λ _. Bytes raw.new) result
             self.old self.new }
@@ -162,9 +138,7 @@ impl Host for Bent {
         self.bends.bytes(call, 4096, room, own, raw)
     }
 
-    fn file_descriptor(&mut self, file: u32, raw: &mut Raw) -> Result<(), HostError>
-        ensures asked { Asked (Descriptor file) [] (λ _. Bytes raw.new) result (bent_told self.old)
-            (bent_told self.new) }
+    fn file_descriptor(&mut self, file: u32, raw: &mut Raw) -> HostResult<()>
         ensures fills { Fills (256) result raw.new }
         ensures bent { IsBent (256) (Descriptor file) [] (λ _. Bytes raw.new) result self.old
             self.new }
@@ -182,11 +156,9 @@ impl Host for Bent {
         self.bends.bytes(call, 256, room, own, raw)
     }
 
-    fn file_write(&mut self, file: u32, at: u64, bytes: &[u8]) -> Result<(), HostError>
+    fn file_write(&mut self, file: u32, at: u64, bytes: &[u8]) -> HostResult<()>
         requires most { length bytes.now ≤ 4096 }
         requires end { at + length bytes.now ≤ 2 ^ 32 }
-        ensures asked { Asked (FileWrite file at (length bytes.now)) bytes.now (λ _. Done) result
-            (bent_told self.old) (bent_told self.new) }
         ensures bent { IsBent 0 (FileWrite file at (length bytes.now)) bytes.now (λ _. Done) result
             self.old self.new }
     {
@@ -201,16 +173,8 @@ impl Host for Bent {
         )
     }
 
-    fn file_tree_write(
-        &mut self,
-        file: u32,
-        level: u32,
-        index: u64,
-        bytes: &[u8],
-    ) -> Result<(), HostError>
+    fn file_tree_write(&mut self, file: u32, level: u32, index: u64, bytes: &[u8]) -> HostResult<()>
         requires { length bytes.now ≡ 4096 }
-        ensures asked { Asked (TreeWrite file level index) bytes.now (λ _. Done) result
-            (bent_told self.old) (bent_told self.new) }
         ensures bent { IsBent 0 (TreeWrite file level index) bytes.now (λ _. Done) result self.old
             self.new }
     {
@@ -218,37 +182,29 @@ impl Host for Bent {
         self.bends.done(Call::TreeWrite { file, level, index }, own)
     }
 
-    fn file_resize(&mut self, file: u32, size: u64) -> Result<(), HostError>
+    fn file_resize(&mut self, file: u32, size: u64) -> HostResult<()>
         requires { size ≤ 2 ^ 32 }
-        ensures asked { Asked (Resize file size) [] (λ _. Done) result (bent_told self.old)
-            (bent_told self.new) }
         ensures bent { IsBent 0 (Resize file size) [] (λ _. Done) result self.old self.new }
     {
         let own = self.host.file_resize(file, size);
         self.bends.done(Call::Resize { file, size }, own)
     }
 
-    fn file_create(&mut self, dir: u32, name: &[u8], file: u32) -> Result<(), HostError>
-        ensures asked { Asked (Create dir file) name.now (λ _. Done) result (bent_told self.old)
-            (bent_told self.new) }
+    fn file_create(&mut self, dir: u32, name: &[u8], file: u32) -> HostResult<()>
         ensures bent { IsBent 0 (Create dir file) name.now (λ _. Done) result self.old self.new }
     {
         let own = self.host.file_create(dir, name, file);
         self.bends.done(Call::Create { dir, file }, own)
     }
 
-    fn file_mkdir(&mut self, dir: u32, name: &[u8], file: u32) -> Result<(), HostError>
-        ensures asked { Asked (Mkdir dir file) name.now (λ _. Done) result (bent_told self.old)
-            (bent_told self.new) }
+    fn file_mkdir(&mut self, dir: u32, name: &[u8], file: u32) -> HostResult<()>
         ensures bent { IsBent 0 (Mkdir dir file) name.now (λ _. Done) result self.old self.new }
     {
         let own = self.host.file_mkdir(dir, name, file);
         self.bends.done(Call::Mkdir { dir, file }, own)
     }
 
-    fn file_delete(&mut self, dir: u32, name: &[u8]) -> Result<(), HostError>
-        ensures asked { Asked (Delete dir) name.now (λ _. Done) result (bent_told self.old)
-            (bent_told self.new) }
+    fn file_delete(&mut self, dir: u32, name: &[u8]) -> HostResult<()>
         ensures bent { IsBent 0 (Delete dir) name.now (λ _. Done) result self.old self.new }
     {
         let own = self.host.file_delete(dir, name);

@@ -9,7 +9,7 @@ use Rattle.host_traits.specs.declared.host.HostError.{HostError}
 use Rattle.host_traits.specs.declared.host.HostError.TheVariants.{Failed, Memory}
 use Rattle.host_traits.specs.Held.{Held, Disk, name_with, serve}
 use Rattle.host_traits.specs.Mem.{one_more}
-use Rattle.host_traits.specs.Told.{Told}
+use Rattle.host_traits.specs.Told.{Told, Asked}
 use Rattle.mem_files.specs.Files.{Entries, at, Puts, FileData, file_of, NameList, has_name}
 use Rattle.host_mem.specs.Made.{plain_disk, composite_disk}
 
@@ -144,3 +144,9 @@ FailsBy call given (Err Memory) old = is_listed old.count ≡ false
 pub record IsNumbered (old new : Count) : Type 0 where
   pub calls : new.calls ≡ one_more old.calls
   pub failing : new.failing ≡ old.failing
+
+-- what is told of a call and its answer: the answer is what is held, the call fails only as it has to, and it is counted
+pub record Tells {T : Type 0} (call : Call) (given : List ℕ) (said : T → Said) (result : Result T HostError) (old new : Mem) : Type 0 where
+  pub asked : Asked call given said result (mem_told old) (mem_told new)
+  pub fails : FailsBy call given result old
+  pub counts : IsNumbered old.count new.count

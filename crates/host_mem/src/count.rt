@@ -2,7 +2,7 @@
 ghost use Rattle.std.specs.Prelude.{◌≡◌, ◌<◌, ◌^◌, ◌+◌, ◌-◌, List, ℕ, []};
 ghost use Rattle.host_mem.specs.Mem.{Begins, Ends, unused};
 
-use host_traits::{Call, HostError};
+use host_traits::{Call, HostError, HostResult};
 use std::alloc::Global;
 use std::marker::Model;
 
@@ -61,7 +61,7 @@ impl Tally {
     }
 
     // Counts the failure of a call, where it failed.
-    pub(crate) fn end(&mut self, call: Call, answer: Result<(), HostError>)
+    pub(crate) fn end(&mut self, call: Call, answer: HostResult<()>)
         ensures { Ends call answer self.old self.new }
     {
         match answer {
@@ -75,7 +75,7 @@ impl Tally {
     }
 
     // The same for a call that gives a number.
-    pub(crate) fn end_number(&mut self, call: Call, answer: Result<u64, HostError>)
+    pub(crate) fn end_number(&mut self, call: Call, answer: HostResult<u64>)
         ensures { Ends call answer self.old self.new }
     {
         match answer {

@@ -6,7 +6,7 @@ ghost use Rattle.host_traits.specs.Held.{is_there};
 ghost use Rattle.mem_files.specs.Files.{Entries, FileData, at, Puts};
 ghost use Rattle.host_mem.specs.Mem.{Named, DiskData, Does, held_of, names_have, may_make};
 
-use host_traits::HostError;
+use host_traits::{HostError, HostResult};
 use mem_files::{MemFile, Names};
 use mg_base::Memory;
 use std::alloc::Global;
@@ -23,11 +23,7 @@ fn has(dirs: &BTreeMap<u32, Names>, dir: u32, name: &[u8]) -> bool
 }
 
 /// Takes a name away from a directory. It takes no memory.
-pub(crate) fn delete(
-    dirs: &mut BTreeMap<u32, Names>,
-    dir: u32,
-    name: &[u8],
-) -> Result<(), HostError>
+pub(crate) fn delete(dirs: &mut BTreeMap<u32, Names>, dir: u32, name: &[u8]) -> HostResult<()>
     ensures { (disks : Entries DiskData) (files : Entries FileData)
         → Does (Delete dir) name.now (λ _. Done) result (held_of disks files dirs.old.entries)
         (held_of disks files dirs.new.entries) }
@@ -64,12 +60,7 @@ fn may_make(
 }
 
 // Adds a name to a directory.
-fn add_name(
-    alloc: Global,
-    dirs: &mut BTreeMap<u32, Names>,
-    dir: u32,
-    name: &[u8],
-) -> Result<(), HostError>
+fn add_name(alloc: Global, dirs: &mut BTreeMap<u32, Names>, dir: u32, name: &[u8]) -> HostResult<()>
     requires { IsSome (at dirs.old.entries dir) }
     ensures ok { OnOk result (Named dirs.old.entries dirs.new.entries dir name.now) }
     ensures err { OnErr result (dirs.new.entries ≡ dirs.old.entries) }
@@ -91,7 +82,7 @@ pub(crate) fn create(
     dir: u32,
     name: &[u8],
     file: u32,
-) -> Result<(), HostError>
+) -> HostResult<()>
     ensures { (disks : Entries DiskData) → Does (Create dir file) name.now (λ _. Done) result
         (held_of disks files.old.entries dirs.old.entries)
         (held_of disks files.new.entries dirs.new.entries) }
@@ -120,7 +111,7 @@ pub(crate) fn mkdir(
     dir: u32,
     name: &[u8],
     file: u32,
-) -> Result<(), HostError>
+) -> HostResult<()>
     ensures { (disks : Entries DiskData) → Does (Mkdir dir file) name.now (λ _. Done) result
         (held_of disks files.now.entries dirs.old.entries)
         (held_of disks files.now.entries dirs.new.entries) }

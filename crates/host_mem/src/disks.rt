@@ -8,7 +8,7 @@ ghost use Rattle.mem_files.specs.Files.{Entries, FileData, NameList, Puts, at};
 ghost use Rattle.host_mem.specs.Mem.{DiskData, Does, covers, disk_of, held_of};
 
 use crate::mem_disk::MemDisk;
-use host_traits::{HostError, Raw};
+use host_traits::{HostError, HostResult, Raw};
 use mg_base::Memory;
 use std::alloc::Global;
 use std::collections::BTreeMap;
@@ -32,7 +32,7 @@ fn has(disks: &BTreeMap<u32, MemDisk>, disk: u32, sector: u64, count: u32) -> bo
 }
 
 /// How many sectors a disk has.
-pub(crate) fn size(disks: &BTreeMap<u32, MemDisk>, disk: u32) -> Result<u64, HostError>
+pub(crate) fn size(disks: &BTreeMap<u32, MemDisk>, disk: u32) -> HostResult<u64>
     ensures { (files : Entries FileData) (dirs : Entries NameList)
         → Does (BlockSize disk) [] (λ n. Number n) result (held_of disks.now.entries files dirs)
         (held_of disks.now.entries files dirs) }
@@ -44,7 +44,7 @@ pub(crate) fn size(disks: &BTreeMap<u32, MemDisk>, disk: u32) -> Result<u64, Hos
 }
 
 /// What was written stays: is there such a disk?
-pub(crate) fn sync(disks: &BTreeMap<u32, MemDisk>, disk: u32) -> Result<(), HostError>
+pub(crate) fn sync(disks: &BTreeMap<u32, MemDisk>, disk: u32) -> HostResult<()>
     ensures { (files : Entries FileData) (dirs : Entries NameList)
         → Does (BlockSync disk) [] (λ _. Done) result (held_of disks.now.entries files dirs)
         (held_of disks.now.entries files dirs) }
@@ -65,7 +65,7 @@ pub(crate) fn read(
     sector: u64,
     count: u32,
     raw: &mut Raw,
-) -> Result<(), HostError>
+) -> HostResult<()>
     requires count { count ≤ 136 }
     requires empty { raw.old ≡ [] }
     ensures does { (files : Entries FileData) (dirs : Entries NameList)
@@ -90,7 +90,7 @@ pub(crate) fn write(
     disk: u32,
     sector: u64,
     bytes: &[u8],
-) -> Result<(), HostError>
+) -> HostResult<()>
     requires whole { length bytes.now % 512 ≡ 0 }
     requires most { length bytes.now ≤ 69632 }
     ensures { (files : Entries FileData) (dirs : Entries NameList)

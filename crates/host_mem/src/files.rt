@@ -7,7 +7,7 @@ ghost use Rattle.host_traits.specs.Told.{Fills};
 ghost use Rattle.mem_files.specs.Files.{Entries, FileData, NameList, Puts, at, file_of, blank_file};
 ghost use Rattle.host_mem.specs.Mem.{DiskData, Does, held_of};
 
-use host_traits::{HostError, Raw};
+use host_traits::{HostError, HostResult, Raw};
 use mem_files::MemFile;
 use mg_base::Memory;
 use std::alloc::Global;
@@ -20,7 +20,7 @@ pub(crate) fn read(
     at: u64,
     want: u32,
     raw: &mut Raw,
-) -> Result<(), HostError>
+) -> HostResult<()>
     requires want { want ≤ 69632 }
     requires empty { raw.old ≡ [] }
     ensures does { (disks : Entries DiskData) (dirs : Entries NameList)
@@ -44,7 +44,7 @@ pub(crate) fn read_tree(
     level: u32,
     index: u64,
     raw: &mut Raw,
-) -> Result<(), HostError>
+) -> HostResult<()>
     requires { raw.old ≡ [] }
     ensures does { (disks : Entries DiskData) (dirs : Entries NameList)
         → Does (TreeRead file level index) [] (λ _. Bytes raw.new) result
@@ -65,7 +65,7 @@ pub(crate) fn read_descriptor(
     files: &BTreeMap<u32, MemFile>,
     file: u32,
     raw: &mut Raw,
-) -> Result<(), HostError>
+) -> HostResult<()>
     requires { raw.old ≡ [] }
     ensures does { (disks : Entries DiskData) (dirs : Entries NameList)
         → Does (Descriptor file) [] (λ _. Bytes raw.new) result
@@ -88,7 +88,7 @@ pub(crate) fn write(
     file: u32,
     at: u64,
     bytes: &[u8],
-) -> Result<(), HostError>
+) -> HostResult<()>
     requires most { length bytes.now ≤ 4096 }
     requires end { at + length bytes.now ≤ 2 ^ 32 }
     ensures { (disks : Entries DiskData) (dirs : Entries NameList)
@@ -105,11 +105,7 @@ pub(crate) fn write(
 }
 
 /// Cuts the bytes of a file, or adds zeros.
-pub(crate) fn resize(
-    files: &mut BTreeMap<u32, MemFile>,
-    file: u32,
-    size: u64,
-) -> Result<(), HostError>
+pub(crate) fn resize(files: &mut BTreeMap<u32, MemFile>, file: u32, size: u64) -> HostResult<()>
     requires { size ≤ 2 ^ 32 }
     ensures { (disks : Entries DiskData) (dirs : Entries NameList)
         → Does (Resize file size) [] (λ _. Done) result (held_of disks files.old.entries dirs)
@@ -132,7 +128,7 @@ pub(crate) fn write_tree(
     level: u32,
     index: u64,
     bytes: &[u8],
-) -> Result<(), HostError>
+) -> HostResult<()>
     requires { length bytes.now ≡ 4096 }
     ensures { (disks : Entries DiskData) (dirs : Entries NameList)
         → Does (TreeWrite file level index) bytes.now (λ _. Done) result

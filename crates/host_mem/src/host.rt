@@ -5,12 +5,12 @@ ghost use Rattle.std.specs.Option.{option_map};
 ghost use Rattle.host_traits.specs.declared.calls.Call.TheVariants.{BlockSize, BlockRead, BlockWrite, BlockSync, FileRead, TreeRead, Descriptor, FileWrite, TreeWrite, Resize, Create, Mkdir, Delete};
 ghost use Rattle.host_traits.specs.declared.calls.Said.TheVariants.{Number, Bytes, Done};
 ghost use Rattle.host_traits.specs.Held.{empty_file, is_there, with_dir, with_file};
-ghost use Rattle.host_traits.specs.Told.{Asked, Fills, Told, IsHeardSize};
+ghost use Rattle.host_traits.specs.Told.{Fills, Told, IsHeardSize};
 ghost use Rattle.composite_spec.specs.Said.{IsComposite, composite};
 ghost use Rattle.block_map.specs.Disk.{contents};
 ghost use Rattle.mem_files.specs.FsVerity.{verity_file};
 ghost use Rattle.host_mem.specs.Made.{RefusesAlias, composite_disk, nothing, plain_disk, with_disk};
-ghost use Rattle.host_mem.specs.Mem.{FailsBy, IsNumbered, mem_held, mem_told, unused};
+ghost use Rattle.host_mem.specs.Mem.{Tells, mem_held, mem_told, unused};
 
 use crate::count::Tally;
 use crate::fault::CompositeFault;
@@ -18,7 +18,7 @@ use crate::mem_disk::MemDisk;
 use crate::{dirs, disks, files};
 use block_map::{Map, MapFault};
 use composite_spec::Spec;
-use host_traits::{Call, Host, HostError, Raw};
+use host_traits::{Call, Host, HostError, HostResult, Raw};
 use mem_files::verity::verity;
 use mem_files::{MemFile, Names};
 use mg_base::{Memory, Salt};
@@ -233,11 +233,8 @@ impl MemHost {
 impl Host for MemHost {
     ghost told = { λ m. mem_told m };
 
-    fn block_size(&mut self, disk: u32) -> Result<u64, HostError>
-        ensures asked { Asked (BlockSize disk) [] (λ n. Number n) result (mem_told self.old)
-            (mem_told self.new) }
-        ensures fails { FailsBy (BlockSize disk) [] result self.old }
-        ensures counts { IsNumbered self.old.count self.new.count }
+    fn block_size(&mut self, disk: u32) -> HostResult<u64>
+        ensures tells { Tells (BlockSize disk) [] (λ n. Number n) result self.old self.new }
     {
         let call = Call::BlockSize { disk };
         if self.tally.begin(call) {
@@ -248,19 +245,11 @@ impl Host for MemHost {
         answer
     }
 
-    fn block_read(
-        &mut self,
-        disk: u32,
-        sector: u64,
-        count: u32,
-        raw: &mut Raw,
-    ) -> Result<(), HostError>
+    fn block_read(&mut self, disk: u32, sector: u64, count: u32, raw: &mut Raw) -> HostResult<()>
         requires { count ≤ 136 }
-        ensures asked { Asked (BlockRead disk sector count) [] (λ _. Bytes raw.new) result
-            (mem_told self.old) (mem_told self.new) }
+        ensures tells { Tells (BlockRead disk sector count) [] (λ _. Bytes raw.new)
+            result self.old self.new }
         ensures fills { Fills (512 * count) result raw.new }
-        ensures fails { FailsBy (BlockRead disk sector count) [] result self.old }
-        ensures counts { IsNumbered self.old.count self.new.count }
     {
         let call = Call::BlockRead {
             disk,
@@ -276,14 +265,11 @@ impl Host for MemHost {
         answer
     }
 
-    fn block_write(&mut self, disk: u32, sector: u64, bytes: &[u8]) -> Result<(), HostError>
+    fn block_write(&mut self, disk: u32, sector: u64, bytes: &[u8]) -> HostResult<()>
         requires whole { length bytes.now % 512 ≡ 0 }
         requires most { length bytes.now ≤ 69632 }
-        ensures asked { Asked (BlockWrite disk sector (length bytes.now / 512)) bytes.now
-            (λ _. Done) result (mem_told self.old) (mem_told self.new) }
-        ensures fails { FailsBy (BlockWrite disk sector (length bytes.now / 512)) bytes.now result
-            self.old }
-        ensures counts { IsNumbered self.old.count self.new.count }
+        ensures tells { Tells (BlockWrite disk sector (length bytes.now / 512)) bytes.now
+            (λ _. Done) result self.old self.new }
     {
         let count = (bytes.len() / 512) as u32;
         let call = Call::BlockWrite {
@@ -299,11 +285,8 @@ impl Host for MemHost {
         answer
     }
 
-    fn block_sync(&mut self, disk: u32) -> Result<(), HostError>
-        ensures asked { Asked (BlockSync disk) [] (λ _. Done) result (mem_told self.old)
-            (mem_told self.new) }
-        ensures fails { FailsBy (BlockSync disk) [] result self.old }
-        ensures counts { IsNumbered self.old.count self.new.count }
+    fn block_sync(&mut self, disk: u32) -> HostResult<()>
+        ensures tells { Tells (BlockSync disk) [] (λ _. Done) result self.old self.new }
     {
         let call = Call::BlockSync { disk };
         if self.tally.begin(call) {
@@ -314,13 +297,11 @@ impl Host for MemHost {
         answer
     }
 
-    fn file_read(&mut self, file: u32, at: u64, want: u32, raw: &mut Raw) -> Result<(), HostError>
+    fn file_read(&mut self, file: u32, at: u64, want: u32, raw: &mut Raw) -> HostResult<()>
         requires { want ≤ 69632 }
-        ensures asked { Asked (FileRead file at want) [] (λ _. Bytes raw.new) result
-            (mem_told self.old) (mem_told self.new) }
+        ensures tells { Tells (FileRead file at want) [] (λ _. Bytes raw.new)
+            result self.old self.new }
         ensures fills { Fills want result raw.new }
-        ensures fails { FailsBy (FileRead file at want) [] result self.old }
-        ensures counts { IsNumbered self.old.count self.new.count }
     {
         let call = Call::FileRead { file, at, want };
         raw.clear();
@@ -332,18 +313,10 @@ impl Host for MemHost {
         answer
     }
 
-    fn file_tree_read(
-        &mut self,
-        file: u32,
-        level: u32,
-        index: u64,
-        raw: &mut Raw,
-    ) -> Result<(), HostError>
-        ensures asked { Asked (TreeRead file level index) [] (λ _. Bytes raw.new) result
-            (mem_told self.old) (mem_told self.new) }
+    fn file_tree_read(&mut self, file: u32, level: u32, index: u64, raw: &mut Raw) -> HostResult<()>
+        ensures tells { Tells (TreeRead file level index) [] (λ _. Bytes raw.new)
+            result self.old self.new }
         ensures fills { Fills 4096 result raw.new }
-        ensures fails { FailsBy (TreeRead file level index) [] result self.old }
-        ensures counts { IsNumbered self.old.count self.new.count }
     {
         let call = Call::TreeRead { file, level, index };
         raw.clear();
@@ -355,12 +328,9 @@ impl Host for MemHost {
         answer
     }
 
-    fn file_descriptor(&mut self, file: u32, raw: &mut Raw) -> Result<(), HostError>
-        ensures asked { Asked (Descriptor file) [] (λ _. Bytes raw.new) result (mem_told self.old)
-            (mem_told self.new) }
+    fn file_descriptor(&mut self, file: u32, raw: &mut Raw) -> HostResult<()>
+        ensures tells { Tells (Descriptor file) [] (λ _. Bytes raw.new) result self.old self.new }
         ensures fills { Fills 256 result raw.new }
-        ensures fails { FailsBy (Descriptor file) [] result self.old }
-        ensures counts { IsNumbered self.old.count self.new.count }
     {
         let call = Call::Descriptor { file };
         raw.clear();
@@ -372,13 +342,11 @@ impl Host for MemHost {
         answer
     }
 
-    fn file_write(&mut self, file: u32, at: u64, bytes: &[u8]) -> Result<(), HostError>
+    fn file_write(&mut self, file: u32, at: u64, bytes: &[u8]) -> HostResult<()>
         requires most { length bytes.now ≤ 4096 }
         requires end { at + length bytes.now ≤ 2 ^ 32 }
-        ensures asked { Asked (FileWrite file at (length bytes.now)) bytes.now (λ _. Done) result
-            (mem_told self.old) (mem_told self.new) }
-        ensures fails { FailsBy (FileWrite file at (length bytes.now)) bytes.now result self.old }
-        ensures counts { IsNumbered self.old.count self.new.count }
+        ensures tells { Tells (FileWrite file at (length bytes.now)) bytes.now (λ _. Done)
+            result self.old self.new }
     {
         let count = bytes.len() as u32;
         let call = Call::FileWrite { file, at, count };
@@ -390,18 +358,10 @@ impl Host for MemHost {
         answer
     }
 
-    fn file_tree_write(
-        &mut self,
-        file: u32,
-        level: u32,
-        index: u64,
-        bytes: &[u8],
-    ) -> Result<(), HostError>
+    fn file_tree_write(&mut self, file: u32, level: u32, index: u64, bytes: &[u8]) -> HostResult<()>
         requires { length bytes.now ≡ 4096 }
-        ensures asked { Asked (TreeWrite file level index) bytes.now (λ _. Done) result
-            (mem_told self.old) (mem_told self.new) }
-        ensures fails { FailsBy (TreeWrite file level index) bytes.now result self.old }
-        ensures counts { IsNumbered self.old.count self.new.count }
+        ensures tells { Tells (TreeWrite file level index) bytes.now (λ _. Done)
+            result self.old self.new }
     {
         let call = Call::TreeWrite { file, level, index };
         if self.tally.begin(call) {
@@ -412,12 +372,9 @@ impl Host for MemHost {
         answer
     }
 
-    fn file_resize(&mut self, file: u32, size: u64) -> Result<(), HostError>
+    fn file_resize(&mut self, file: u32, size: u64) -> HostResult<()>
         requires { size ≤ 2 ^ 32 }
-        ensures asked { Asked (Resize file size) [] (λ _. Done) result (mem_told self.old)
-            (mem_told self.new) }
-        ensures fails { FailsBy (Resize file size) [] result self.old }
-        ensures counts { IsNumbered self.old.count self.new.count }
+        ensures tells { Tells (Resize file size) [] (λ _. Done) result self.old self.new }
     {
         let call = Call::Resize { file, size };
         if self.tally.begin(call) {
@@ -428,11 +385,8 @@ impl Host for MemHost {
         answer
     }
 
-    fn file_create(&mut self, dir: u32, name: &[u8], file: u32) -> Result<(), HostError>
-        ensures asked { Asked (Create dir file) name.now (λ _. Done) result (mem_told self.old)
-            (mem_told self.new) }
-        ensures fails { FailsBy (Create dir file) name.now result self.old }
-        ensures counts { IsNumbered self.old.count self.new.count }
+    fn file_create(&mut self, dir: u32, name: &[u8], file: u32) -> HostResult<()>
+        ensures tells { Tells (Create dir file) name.now (λ _. Done) result self.old self.new }
     {
         let call = Call::Create { dir, file };
         if self.tally.begin(call) {
@@ -443,11 +397,8 @@ impl Host for MemHost {
         answer
     }
 
-    fn file_mkdir(&mut self, dir: u32, name: &[u8], file: u32) -> Result<(), HostError>
-        ensures asked { Asked (Mkdir dir file) name.now (λ _. Done) result (mem_told self.old)
-            (mem_told self.new) }
-        ensures fails { FailsBy (Mkdir dir file) name.now result self.old }
-        ensures counts { IsNumbered self.old.count self.new.count }
+    fn file_mkdir(&mut self, dir: u32, name: &[u8], file: u32) -> HostResult<()>
+        ensures tells { Tells (Mkdir dir file) name.now (λ _. Done) result self.old self.new }
     {
         let call = Call::Mkdir { dir, file };
         if self.tally.begin(call) {
@@ -458,11 +409,8 @@ impl Host for MemHost {
         answer
     }
 
-    fn file_delete(&mut self, dir: u32, name: &[u8]) -> Result<(), HostError>
-        ensures asked { Asked (Delete dir) name.now (λ _. Done) result (mem_told self.old)
-            (mem_told self.new) }
-        ensures fails { FailsBy (Delete dir) name.now result self.old }
-        ensures counts { IsNumbered self.old.count self.new.count }
+    fn file_delete(&mut self, dir: u32, name: &[u8]) -> HostResult<()>
+        ensures tells { Tells (Delete dir) name.now (λ _. Done) result self.old self.new }
     {
         let call = Call::Delete { dir };
         if self.tally.begin(call) {

@@ -9,7 +9,7 @@ ghost use Rattle.host_rec.specs.Recorded.{Keeps, and, exchange, failure, failure
 
 use crate::text::{begin, make_room, put};
 use host_tape::Next;
-use host_traits::{Call, HostError, Raw};
+use host_traits::{Call, HostError, HostResult, Raw};
 use std::alloc::Global;
 use std::marker::Model;
 
@@ -73,7 +73,7 @@ impl Records {
     }
 
     // Room for one call more, and for so many bytes of its record.
-    pub(crate) fn reserve(&mut self, bytes: usize) -> Result<(), HostError>
+    pub(crate) fn reserve(&mut self, bytes: usize) -> HostResult<()>
         ensures kept { self.new.kept ≡ self.old.kept }
         ensures even { length self.old.kept.calls ≡ length self.old.kept.items }
         ensures room { OnOk result (0 < self.new.room) }
@@ -109,7 +109,7 @@ impl Records {
 
     // Keeps a call that was done, or failed.
     #[tactic(auto, unfolding(host_tape::specs::Tape::item_bytes))]
-    pub(crate) fn note_done(&mut self, call: Call, answer: Result<(), HostError>)
+    pub(crate) fn note_done(&mut self, call: Call, answer: HostResult<()>)
         requires room { 0 < self.old.room }
         requires spare { 1 ≤ self.old.spare }
         ensures { Keeps call (λ _. Done) answer self.old.kept self.new.kept }
@@ -123,7 +123,7 @@ impl Records {
 
     // Keeps a call that gave a number, or failed.
     #[tactic(auto, unfolding(host_tape::specs::Tape::item_bytes))]
-    pub(crate) fn note_number(&mut self, call: Call, answer: Result<u64, HostError>)
+    pub(crate) fn note_number(&mut self, call: Call, answer: HostResult<u64>)
         requires room { 0 < self.old.room }
         requires spare { 9 ≤ self.old.spare }
         ensures { Keeps call (λ n. Number n) answer self.old.kept self.new.kept }
@@ -137,7 +137,7 @@ impl Records {
 
     // Keeps a call that gave the bytes of `raw`, or failed.
     #[tactic(auto, unfolding(host_tape::specs::Tape::item_bytes))]
-    pub(crate) fn note_bytes(&mut self, call: Call, answer: Result<(), HostError>, raw: &Raw)
+    pub(crate) fn note_bytes(&mut self, call: Call, answer: HostResult<()>, raw: &Raw)
         requires room { 0 < self.old.room }
         requires spare { 1 ≤ self.old.spare }
         requires fits { OnOk answer (5 + length raw.now ≤ self.old.spare) }

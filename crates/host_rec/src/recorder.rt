@@ -7,7 +7,7 @@ ghost use Rattle.host_tape.specs.Tape.{tape_bytes, IsTape};
 ghost use Rattle.host_rec.specs.Recorded.{Keeps, Passed, failures, nothing, recorder_told, told_with};
 
 use crate::kept::Records;
-use host_traits::{Call, Host, HostError, Raw};
+use host_traits::{Call, Host, HostResult, Raw};
 use mg_base::Memory;
 use std::alloc::Global;
 use std::marker::Model;
@@ -77,7 +77,7 @@ impl<H: Host> Recorder<H> {
 impl<H: Host> Host for Recorder<H> {
     ghost told = { λ r. told_with (H.told r.host) r.kept };
 
-    fn block_size(&mut self, disk: u32) -> Result<u64, HostError>
+    fn block_size(&mut self, disk: u32) -> HostResult<u64>
         ensures asked { Asked (BlockSize disk) [] (λ n. Number n)
             result (recorder_told H.told self.old) (recorder_told H.told self.new) }
         ensures passed { Passed H.told (BlockSize disk) [] (λ n. Number n)
@@ -90,7 +90,7 @@ impl<H: Host> Host for Recorder<H> {
         answer
     }
 
-    fn block_write(&mut self, disk: u32, sector: u64, bytes: &[u8]) -> Result<(), HostError>
+    fn block_write(&mut self, disk: u32, sector: u64, bytes: &[u8]) -> HostResult<()>
         requires whole { length bytes.now % 512 ≡ 0 }
         requires most { length bytes.now ≤ 69632 }
         ensures asked { Asked (BlockWrite disk sector (length bytes.now / 512)) bytes.now
@@ -116,7 +116,7 @@ impl<H: Host> Host for Recorder<H> {
         answer
     }
 
-    fn block_sync(&mut self, disk: u32) -> Result<(), HostError>
+    fn block_sync(&mut self, disk: u32) -> HostResult<()>
         ensures asked { Asked (BlockSync disk) [] (λ _. Done)
             result (recorder_told H.told self.old) (recorder_told H.told self.new) }
         ensures passed { Passed H.told (BlockSync disk) [] (λ _. Done)
@@ -129,7 +129,7 @@ impl<H: Host> Host for Recorder<H> {
         answer
     }
 
-    fn file_write(&mut self, file: u32, at: u64, bytes: &[u8]) -> Result<(), HostError>
+    fn file_write(&mut self, file: u32, at: u64, bytes: &[u8]) -> HostResult<()>
         requires most { length bytes.now ≤ 4096 }
         requires end { at + length bytes.now ≤ 2 ^ 32 }
         ensures asked { Asked (FileWrite file at (length bytes.now)) bytes.now (λ _. Done)
@@ -147,13 +147,7 @@ impl<H: Host> Host for Recorder<H> {
         answer
     }
 
-    fn file_tree_write(
-        &mut self,
-        file: u32,
-        level: u32,
-        index: u64,
-        bytes: &[u8],
-    ) -> Result<(), HostError>
+    fn file_tree_write(&mut self, file: u32, level: u32, index: u64, bytes: &[u8]) -> HostResult<()>
         requires { length bytes.now ≡ 4096 }
         ensures asked { Asked (TreeWrite file level index) bytes.now (λ _. Done)
             result (recorder_told H.told self.old) (recorder_told H.told self.new) }
@@ -169,7 +163,7 @@ impl<H: Host> Host for Recorder<H> {
         answer
     }
 
-    fn file_resize(&mut self, file: u32, size: u64) -> Result<(), HostError>
+    fn file_resize(&mut self, file: u32, size: u64) -> HostResult<()>
         requires { size ≤ 2 ^ 32 }
         ensures asked { Asked (Resize file size) [] (λ _. Done)
             result (recorder_told H.told self.old) (recorder_told H.told self.new) }
@@ -183,7 +177,7 @@ impl<H: Host> Host for Recorder<H> {
         answer
     }
 
-    fn file_create(&mut self, dir: u32, name: &[u8], file: u32) -> Result<(), HostError>
+    fn file_create(&mut self, dir: u32, name: &[u8], file: u32) -> HostResult<()>
         ensures asked { Asked (Create dir file) name.now (λ _. Done)
             result (recorder_told H.told self.old) (recorder_told H.told self.new) }
         ensures passed { Passed H.told (Create dir file) name.now (λ _. Done)
@@ -196,7 +190,7 @@ impl<H: Host> Host for Recorder<H> {
         answer
     }
 
-    fn file_mkdir(&mut self, dir: u32, name: &[u8], file: u32) -> Result<(), HostError>
+    fn file_mkdir(&mut self, dir: u32, name: &[u8], file: u32) -> HostResult<()>
         ensures asked { Asked (Mkdir dir file) name.now (λ _. Done)
             result (recorder_told H.told self.old) (recorder_told H.told self.new) }
         ensures passed { Passed H.told (Mkdir dir file) name.now (λ _. Done)
@@ -209,7 +203,7 @@ impl<H: Host> Host for Recorder<H> {
         answer
     }
 
-    fn file_delete(&mut self, dir: u32, name: &[u8]) -> Result<(), HostError>
+    fn file_delete(&mut self, dir: u32, name: &[u8]) -> HostResult<()>
         ensures asked { Asked (Delete dir) name.now (λ _. Done)
             result (recorder_told H.told self.old) (recorder_told H.told self.new) }
         ensures passed { Passed H.told (Delete dir) name.now (λ _. Done)
@@ -222,13 +216,7 @@ impl<H: Host> Host for Recorder<H> {
         answer
     }
 
-    fn block_read(
-        &mut self,
-        disk: u32,
-        sector: u64,
-        count: u32,
-        raw: &mut Raw,
-    ) -> Result<(), HostError>
+    fn block_read(&mut self, disk: u32, sector: u64, count: u32, raw: &mut Raw) -> HostResult<()>
         requires { count ≤ 136 }
         ensures asked { Asked (BlockRead disk sector count) [] (λ _. Bytes raw.new)
             result (recorder_told H.told self.old) (recorder_told H.told self.new) }
@@ -253,7 +241,7 @@ impl<H: Host> Host for Recorder<H> {
         answer
     }
 
-    fn file_read(&mut self, file: u32, at: u64, want: u32, raw: &mut Raw) -> Result<(), HostError>
+    fn file_read(&mut self, file: u32, at: u64, want: u32, raw: &mut Raw) -> HostResult<()>
         requires { want ≤ 69632 }
         ensures asked { Asked (FileRead file at want) [] (λ _. Bytes raw.new)
             result (recorder_told H.told self.old) (recorder_told H.told self.new) }
@@ -271,13 +259,7 @@ impl<H: Host> Host for Recorder<H> {
         answer
     }
 
-    fn file_tree_read(
-        &mut self,
-        file: u32,
-        level: u32,
-        index: u64,
-        raw: &mut Raw,
-    ) -> Result<(), HostError>
+    fn file_tree_read(&mut self, file: u32, level: u32, index: u64, raw: &mut Raw) -> HostResult<()>
         ensures asked { Asked (TreeRead file level index) [] (λ _. Bytes raw.new)
             result (recorder_told H.told self.old) (recorder_told H.told self.new) }
         ensures passed { Passed H.told (TreeRead file level index) [] (λ _. Bytes raw.new)
@@ -294,7 +276,7 @@ impl<H: Host> Host for Recorder<H> {
         answer
     }
 
-    fn file_descriptor(&mut self, file: u32, raw: &mut Raw) -> Result<(), HostError>
+    fn file_descriptor(&mut self, file: u32, raw: &mut Raw) -> HostResult<()>
         ensures asked { Asked (Descriptor file) [] (λ _. Bytes raw.new)
             result (recorder_told H.told self.old) (recorder_told H.told self.new) }
         ensures passed { Passed H.told (Descriptor file) [] (λ _. Bytes raw.new)

@@ -11,7 +11,7 @@ ghost use Rattle.host_tape.specs.Next.{item_by};
 use crate::fault::TapeFault;
 use crate::front::{behind, front_record};
 use crate::next::Next;
-use host_traits::{Call, Host, HostError, Raw};
+use host_traits::{Call, Host, HostError, HostResult, Raw};
 use std::alloc::Global;
 use std::marker::Model;
 
@@ -100,7 +100,7 @@ impl Tape {
     }
 
     // Answers a call that takes bytes, at most so many.
-    fn hear(&mut self, call: Call, most: usize, raw: &mut Raw) -> Result<(), HostError>
+    fn hear(&mut self, call: Call, most: usize, raw: &mut Raw) -> HostResult<()>
         requires kind { kind_of call ≡ kind_bytes most }
         requires most { most ≤ 69632 }
         ensures asked { Asked call [] (λ _. Bytes raw.new) result (tape_told self.old)
@@ -124,7 +124,7 @@ impl Tape {
     }
 
     // Answers a call that takes a number.
-    fn number(&mut self, call: Call) -> Result<u64, HostError>
+    fn number(&mut self, call: Call) -> HostResult<u64>
         requires { kind_of call ≡ kind_number }
         ensures { Asked call [] (λ n. Number n) result (tape_told self.old) (tape_told self.new) }
     {
@@ -140,7 +140,7 @@ impl Tape {
     }
 
     // Answers a call that is only done.
-    fn done(&mut self, call: Call, given: &[u8]) -> Result<(), HostError>
+    fn done(&mut self, call: Call, given: &[u8]) -> HostResult<()>
         requires { kind_of call ≡ kind_done }
         ensures { Asked call given.now (λ _. Done) result (tape_told self.old)
             (tape_told self.new) }
@@ -160,17 +160,11 @@ impl Tape {
 impl Host for Tape {
     ghost told = { tape_told };
 
-    fn block_size(&mut self, disk: u32) -> Result<u64, HostError> {
+    fn block_size(&mut self, disk: u32) -> HostResult<u64> {
         self.number(Call::BlockSize { disk })
     }
 
-    fn block_read(
-        &mut self,
-        disk: u32,
-        sector: u64,
-        count: u32,
-        raw: &mut Raw,
-    ) -> Result<(), HostError> {
+    fn block_read(&mut self, disk: u32, sector: u64, count: u32, raw: &mut Raw) -> HostResult<()> {
         let most = 512 * count as usize;
         self.hear(
             Call::BlockRead {
@@ -183,7 +177,7 @@ impl Host for Tape {
         )
     }
 
-    fn block_write(&mut self, disk: u32, sector: u64, bytes: &[u8]) -> Result<(), HostError> {
+    fn block_write(&mut self, disk: u32, sector: u64, bytes: &[u8]) -> HostResult<()> {
         let count = (bytes.len() / 512) as u32;
         self.done(
             Call::BlockWrite {
@@ -195,11 +189,11 @@ impl Host for Tape {
         )
     }
 
-    fn block_sync(&mut self, disk: u32) -> Result<(), HostError> {
+    fn block_sync(&mut self, disk: u32) -> HostResult<()> {
         self.done(Call::BlockSync { disk }, &[])
     }
 
-    fn file_read(&mut self, file: u32, at: u64, want: u32, raw: &mut Raw) -> Result<(), HostError> {
+    fn file_read(&mut self, file: u32, at: u64, want: u32, raw: &mut Raw) -> HostResult<()> {
         self.hear(Call::FileRead { file, at, want }, want as usize, raw)
     }
 
@@ -209,15 +203,15 @@ impl Host for Tape {
         level: u32,
         index: u64,
         raw: &mut Raw,
-    ) -> Result<(), HostError> {
+    ) -> HostResult<()> {
         self.hear(Call::TreeRead { file, level, index }, 4096, raw)
     }
 
-    fn file_descriptor(&mut self, file: u32, raw: &mut Raw) -> Result<(), HostError> {
+    fn file_descriptor(&mut self, file: u32, raw: &mut Raw) -> HostResult<()> {
         self.hear(Call::Descriptor { file }, 256, raw)
     }
 
-    fn file_write(&mut self, file: u32, at: u64, bytes: &[u8]) -> Result<(), HostError> {
+    fn file_write(&mut self, file: u32, at: u64, bytes: &[u8]) -> HostResult<()> {
         let count = bytes.len() as u32;
         self.done(Call::FileWrite { file, at, count }, bytes)
     }
@@ -228,23 +222,23 @@ impl Host for Tape {
         level: u32,
         index: u64,
         bytes: &[u8],
-    ) -> Result<(), HostError> {
+    ) -> HostResult<()> {
         self.done(Call::TreeWrite { file, level, index }, bytes)
     }
 
-    fn file_resize(&mut self, file: u32, size: u64) -> Result<(), HostError> {
+    fn file_resize(&mut self, file: u32, size: u64) -> HostResult<()> {
         self.done(Call::Resize { file, size }, &[])
     }
 
-    fn file_create(&mut self, dir: u32, name: &[u8], file: u32) -> Result<(), HostError> {
+    fn file_create(&mut self, dir: u32, name: &[u8], file: u32) -> HostResult<()> {
         self.done(Call::Create { dir, file }, name)
     }
 
-    fn file_mkdir(&mut self, dir: u32, name: &[u8], file: u32) -> Result<(), HostError> {
+    fn file_mkdir(&mut self, dir: u32, name: &[u8], file: u32) -> HostResult<()> {
         self.done(Call::Mkdir { dir, file }, name)
     }
 
-    fn file_delete(&mut self, dir: u32, name: &[u8]) -> Result<(), HostError> {
+    fn file_delete(&mut self, dir: u32, name: &[u8]) -> HostResult<()> {
         self.done(Call::Delete { dir }, name)
     }
 

@@ -1,8 +1,5 @@
-use Rattle.host_bent.proofs.Bending.{tells, is_bent}
+use Rattle.host_bent.proofs.Bending.{is_bent}
 use Rattle.host_bent.proofs.bent_host.BentHost.file_write.Goals as goal
 
-pub returns-clause-asked : goal.returns-clause-asked
-returns-clause-asked c = rw (← c.self.view_is) (tells _ _ _ _ _ _ c.done.ensures.small c.done.ensures.ended)
-
-pub returns-clause-bent : goal.returns-clause-bent
-returns-clause-bent c = rw (← c.self.view_is) (is_bent _ _ _ _ _ _ _ _ _ _ _ c.file_write-own.ensures.asked c.file_write-own.ensures.fails c.file_write-own.ensures.counts c.done.ensures.bent c.done.ensures.ended)
+pub returns : goal.returns
+returns c = record { bent = rw (← c.self.view_is) (is_bent _ _ _ _ _ _ _ _ _ _ _ c.file_write-own.ensures.tells c.done.ensures.small c.done.ensures.bent c.done.ensures.ended) }
