@@ -10,8 +10,6 @@ mod name_table;
 mod new_name;
 mod nodes;
 mod rows;
-#[cfg(test)]
-mod tests;
 
 pub use dirs::{Dirs, MOST_MADE, MOST_NODES, ROOT};
 pub use kind::Kind;

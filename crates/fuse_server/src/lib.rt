@@ -15,6 +15,3 @@ pub use crate::answer::FuseAnswer;
 pub use crate::files::Files;
 pub use crate::laws::{handles_stay_tied, names_stay_served};
 pub use crate::server::Server;
-
-#[cfg(test)]
-mod tests;

@@ -1,7 +1,7 @@
 // A session, its replies worked out by another program from the kernel's header linux/fuse.h.
-use super::*;
 use authfs_dirs::{Dirs, Kind};
 use fuse_codec::encode_reply;
+use fuse_server::{Files, Server};
 use host_tape::{Tape, read_tape};
 use host_traits::{MemSink, Raw};
 use mg_base::{Digest, Memory, Page};
