@@ -1,0 +1,11 @@
+pub mod Headers
+pub mod Openings
+pub mod Partitions
+pub mod Accesses
+pub mod Written
+pub mod Served
+pub mod Promises
+pub mod Holding
+pub mod Found
+pub mod Laying
+pub mod Others

@@ -1,0 +1,16 @@
+//! Instance images, version 1: sealed records in the partitions of an image, which stands in a span of a disk.
+#![tactic(auto)]
+
+mod faults;
+mod header;
+mod laws;
+mod opening;
+mod records;
+mod values;
+mod writing;
+
+pub use faults::{GetFault, ImageFault, PutFault};
+pub use laws::{records_stay, texts_were_sealed};
+pub use opening::open_image;
+pub use values::{Image, Part};
+
