@@ -9,3 +9,4 @@ pub mod Holding
 pub mod Found
 pub mod Laying
 pub mod Others
+pub mod Swapping

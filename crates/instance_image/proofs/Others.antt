@@ -56,7 +56,7 @@ others_kept (q ∷ parts) uuid other size apart =
 
 -- ---- bytes beside others that were put
 
-over_shape : (old new : List ℕ) (at : ℕ) → at + length new ≤ length old → over old at new ≡ take at old ++ (new ++ drop (at + length new) old)
+pub over_shape : (old new : List ℕ) (at : ℕ) → at + length new ≤ length old → over old at new ≡ take at old ++ (new ++ drop (at + length new) old)
 over_shape old new at room =
     let none : at - length old ≡ 0 = omega arith in
     ap (λ (n : ℕ). take at old ++ replicate n 0 ++ new ++ drop (at + length new) old) none ∙ simp (append-nil, append_assoc)
@@ -86,7 +86,7 @@ over_after old new at from n room past =
     ∙ ap (λ (l : List ℕ). take n (drop (from - (at + length new)) l)) (drop_at (take at old ++ new) rest (at + length new) both)
     ∙ ap (take n) (drop-drop (from - (at + length new)) (at + length new) old) ∙ ap (λ (m : ℕ). take n (drop m old)) (sym cut)
 
-sectors_few : (n r : ℕ) → n ≤ 512 * r → sectors_of n ≤ r
+pub sectors_few : (n r : ℕ) → n ≤ 512 * r → sectors_of n ≤ r
 sectors_few n r le = omega (arith, le)
 
 others_held : (k : Kept) (secret uuid nonce text : List ℕ) (h : Held) (new : Option Held) (other : List ℕ) (q : Part) (z : Sealing)

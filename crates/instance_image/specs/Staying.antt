@@ -1,11 +1,14 @@
 -- What a put changes of the kept sizes, and what stays of all records of an image.
-use Rattle.std.specs.Prelude.{◌≡◌, ◌≢◌, ◌⊎◌, ℕ, List, [], ◌∷◌, ◌++◌, Option, Some, None}
+use Rattle.std.specs.Prelude.{◌≡◌, ◌≢◌, ◌⊎◌, ℕ, List, [], ◌∷◌, ◌++◌, length, Option, Some, None}
 use Rattle.host_traits.specs.Held.{Held}
 use Rattle.instance_image.specs.declared.values.Part.{Part}
 use Rattle.instance_image.specs.Records.{Kept, find_part, keep_size}
 use Rattle.instance_image.specs.Sealings.{Sealing, IsOneOf}
 use Rattle.instance_image.specs.Access.{IsPutInto, payload_size, sealing_of}
-use Rattle.instance_image.specs.Promised.{HoldsRecord, PutStands}
+use Rattle.instance_image.specs.Opening.{Opening}
+use Rattle.instance_image.specs.Grammar.{Slot}
+use Rattle.instance_image.specs.Imaged.{HoldsImage, image_of}
+use Rattle.instance_image.specs.Promised.{HoldsRecord, PutStands, MayBeWritten}
 
 -- with another size of the first partition of a UUID, that one has it
 abbrev pub resized_part : Option Part → ℕ → Option Part
@@ -47,3 +50,24 @@ abbrev pub PutsKeepRecords : Type 0
 PutsKeepRecords = (k : Kept) (secret uuid nonce text : List ℕ) (sealings : List Sealing) (h : Held) (new : Option Held) →
     PutStands k secret uuid nonce text h new → HoldsRecords h k secret sealings →
     HoldsAfter k secret uuid nonce text sealings new
+
+-- ---- the image
+
+-- a host holds an image of the partitions that a put kept
+pub record HoldsImageStill (o : Opening) (slots : List Slot) (uuid text : List ℕ) (new : Option Held) : Type 0 where
+  pub held : Held
+  pub held_is : new ≡ Some held
+  pub after : List Slot
+  pub holds : HoldsImage held o after
+  pub is : image_of o after ≡ put_image (image_of o slots) uuid text
+
+-- Where an image was held, one is held after an answered put.
+abbrev pub PutsKeepImages : Type 0
+PutsKeepImages = (o : Opening) (slots : List Slot) (secret uuid nonce text : List ℕ) (h : Held) (new : Option Held) →
+    length o.salt ≡ 64 → length nonce ≡ 12 → HoldsImage h o slots →
+    PutStands (image_of o slots) secret uuid nonce text h new → HoldsImageStill o slots uuid text new
+
+-- Sectors that may be written may be written after it.
+abbrev pub PutsKeepWritable : Type 0
+PutsKeepWritable = (k : Kept) (secret uuid nonce text : List ℕ) (h held : Held) (q : Part) →
+    PutStands k secret uuid nonce text h (Some held) → MayBeWritten h k q → MayBeWritten held (put_image k uuid text) q

@@ -1,6 +1,6 @@
 // What reads and writes of records come to.
 ghost use Rattle.instance_image.specs.Promised.{TextsWereSealed};
-ghost use Rattle.instance_image.specs.Staying.{SizesAreKept, OthersAreKept, PutsKeepRecords};
+ghost use Rattle.instance_image.specs.Staying.{SizesAreKept, OthersAreKept, PutsKeepRecords, PutsKeepImages, PutsKeepWritable};
 
 /// Where no sealed form is heard but those of some sealings, a text that is got is one of theirs, with
 /// that UUID. Its contract is the law; it does nothing.
@@ -8,11 +8,14 @@ pub fn texts_were_sealed()
     ensures { TextsWereSealed }
 {}
 
-/// A put changes the kept size of its own partition alone; and a host that held the records of an
-/// image, each of some sealings, holds them after it, the new one among them. Its contract is the law;
-/// it does nothing.
+/// A put changes the kept size of its own partition alone. A host that held the records of an image,
+/// each of some sealings, holds them after it, the new one among them; and where it held an image, it
+/// holds one of the partitions that the put kept, which may be written as before. Its contract is the
+/// law; it does nothing.
 pub fn records_stay()
     ensures size { SizesAreKept }
     ensures sizes { OthersAreKept }
     ensures all { PutsKeepRecords }
+    ensures image { PutsKeepImages }
+    ensures writable { PutsKeepWritable }
 {}

@@ -1,4 +1,5 @@
-//! Instance images, version 1: sealed records in the partitions of an image, which stands in a span of a disk.
+//! Instance images, version 1: sealed records in the partitions of an image, which stands in some
+//! sectors of a disk.
 #![tactic(auto)]
 
 mod faults;
@@ -14,3 +15,5 @@ pub use laws::{records_stay, texts_were_sealed};
 pub use opening::open_image;
 pub use values::{Image, Part};
 
+#[cfg(test)]
+mod tests;

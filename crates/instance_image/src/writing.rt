@@ -1,5 +1,5 @@
 // Writing an image of empty partitions. The room is taken first, so no piece can fail.
-ghost use Rattle.std.specs.Prelude.{◌≡◌, ◌+◌, ◌*◌, ◌≤◌, ◌^◌, ◌++◌, length, OnOk, OnErr, vec_len, vec_capacity};
+ghost use Rattle.std.specs.Prelude.{◌≡◌, ℕ, ◌+◌, ◌*◌, ◌≤◌, ◌^◌, ◌++◌, length, OnOk, OnErr, vec_len, vec_capacity};
 ghost use Rattle.std.specs.List.{flat_map};
 ghost use Rattle.instance_image.specs.Records.{header_of, zeros};
 ghost use Rattle.instance_image.specs.Grammar.{disk_header, slot_bytes, empty_slot, empty_slots, taken, image_bytes, AreNamed, AreApart, HaveUuids, IsImage};
@@ -92,9 +92,9 @@ impl Image {
         requires named { AreNamed parts.now }
         requires apart { AreApart (empty_slots parts.now) }
         ensures text { OnOk result (out.new.items ≡ out.old.items ++ image_bytes salt.now parts.now) }
-        // These bytes are an image of these partitions.
-        ensures image { OnOk result (IsImage (1 + taken parts.now) salt.now
-            (empty_slots parts.now) (image_bytes salt.now parts.now)) }
+        // These bytes, and so many sectors of zeros behind them, are an image of these partitions.
+        ensures image { OnOk result ((more : ℕ) → IsImage (1 + taken parts.now + more) salt.now
+            (empty_slots parts.now) (image_bytes salt.now parts.now ++ zeros (512 * more))) }
         ensures unchanged { OnErr result (out.new.items ≡ out.old.items) }
     {
         out.reserve(512 * (1 + taken(parts)))?;
