@@ -1,13 +1,11 @@
 -- What comes of one read and of one write.
-use Rattle.std.proofs.Common.{◌≡◌, ℕ, ◌+◌, ◌≤◌, List, [], ◌∷◌, length, Option, Some, None, Result, Ok, Err, refl, ap, sym, ◌∙◌, subst, arith, inl, inr}
+use Rattle.std.proofs.Common.{◌≡◌, ℕ, ◌+◌, ◌≤◌, List, [], length, Option, Some, None, Result, Ok, Err, refl, ap, sym, ◌∙◌, subst, arith, inl, inr}
 use Rattle.std.specs.Prelude.{Bool, true, false, if◌then◌else◌}
 use Rattle.std.proofs.lemmas.Bool.Decides.{nat_tests}
-use Rattle.host_traits.specs.declared.calls.Call.{Call}
 use Rattle.host_traits.specs.declared.calls.Call.TheVariants.{BlockRead}
-use Rattle.host_traits.specs.declared.calls.Said.{Said}
 use Rattle.host_traits.specs.declared.calls.Said.TheVariants.{Bytes}
 use Rattle.host_traits.specs.Told.{Told, Answered, Refused, Unheard, Exchanges, kind_bytes}
-use Rattle.host_traits.specs.Did.{Trace, trace_of, Did, DidBy, IsIn, IsShort}
+use Rattle.host_traits.specs.Did.{Trace, Did, DidBy, IsIn, IsShort}
 use Rattle.host_traits.proofs.Doing.{did_answered, did_refused, did_unheard, did_none, is_failed}
 use Rattle.host_traits.proofs.Talking.{talked_not}
 use Rattle.instance_image.specs.declared.faults.GetFault.{GetFault}

@@ -1,6 +1,6 @@
 -- An image that is held opens.
 use Rattle.std.proofs.Common.{◌≡◌, ◌≢◌, ℕ, zero, suc, ◌+◌, ◌-◌, ◌*◌, ◌<◌, ◌≤◌, ◌^◌, Bool, true, false, List, [], ◌∷◌, ◌++◌, length, take, drop, Option, Some, None, Result, Ok, Err, refl, ap, sym, ◌∙◌, subst, arith, inl, inr, append_assoc, append-nil}
-use Rattle.std.specs.Prelude.{◌⊎◌, ◌==◌, nat_lt, nat_le, not, ◌&&◌, if◌then◌else◌}
+use Rattle.std.specs.Prelude.{◌==◌, nat_lt, nat_le, not, ◌&&◌, if◌then◌else◌}
 use Rattle.std.specs.Int.{w16, w32, w64, to_le_bytes, from_le_bytes}
 use Rattle.std.specs.List.{AllByRecursion, flat_map}
 use Rattle.std.specs.Str.{bytes_eq}
@@ -21,7 +21,7 @@ use Rattle.instance_image.specs.declared.faults.ImageFault.{ImageFault}
 use Rattle.instance_image.specs.declared.faults.ImageFault.TheVariants.{Failed, Short, Magic, Version, NotZero, SaltMismatch, Header, TooMany, Memory}
 use Rattle.instance_image.specs.declared.values.Part.{Part}
 use Rattle.instance_image.specs.Records.{Kept, zeros, part_at, header_of, uuid_in, size_in, reserved_in, find_part}
-use Rattle.instance_image.specs.Opening.{Opening, sector_call, IsImageCall, ◌then◌, magic, version_in, is_zero, disk_fault, Reading, start, is_nil, is_payload_size, is_some, part_of, header_step, with_part, HeardHeaders, HeardSoFar, HeardNext, IsClosed, IsRefused, OpenOutcome, kept_of}
+use Rattle.instance_image.specs.Opening.{Opening, sector_call, ◌then◌, magic, version_in, is_zero, disk_fault, Reading, start, is_nil, is_payload_size, is_some, part_of, header_step, with_part, HeardHeaders, HeardSoFar, HeardNext, IsClosed, IsRefused, OpenOutcome, kept_of}
 use Rattle.instance_image.specs.Grammar.{disk_header, Slot, slot_bytes, IsSlot, IsNew, AreApart, part_of_slot, parts_from}
 use Rattle.instance_image.specs.Imaged.{HoldsImage, image_of, OpensAs}
 use Rattle.instance_image.proofs.Written.{length-header, length-disk, length-slot}

@@ -7,16 +7,15 @@ use Rattle.std.proofs.lemmas.Bool.{ltb-true, ltb-false, eqb-true, eqb-false}
 use Rattle.std.proofs.lemmas.Bool.Decides.{nat_tests}
 use Rattle.host_traits.specs.declared.calls.Call.{Call}
 use Rattle.host_traits.specs.declared.calls.Call.TheVariants.{BlockRead}
-use Rattle.host_traits.specs.declared.calls.Said.{Said}
 use Rattle.host_traits.specs.declared.calls.Said.TheVariants.{Bytes}
-use Rattle.host_traits.specs.Told.{Told, Answered, Unheard, Exchanges, kind_bytes}
-use Rattle.host_traits.specs.Did.{Trace, trace_of, Did, IsIn, IsShort, IsScarce}
-use Rattle.host_traits.proofs.Doing.{did_answered, did_unheard, did_so, did_then, short_later, failed_later, failed_so}
+use Rattle.host_traits.specs.Told.{Told, Answered, Exchanges, kind_bytes}
+use Rattle.host_traits.specs.Did.{Trace, trace_of, Did, IsIn, IsShort}
+use Rattle.host_traits.proofs.Doing.{did_answered, did_so, did_then, short_later, failed_later, failed_so}
 use Rattle.instance_image.specs.declared.faults.ImageFault.{ImageFault}
 use Rattle.instance_image.specs.declared.faults.ImageFault.TheVariants.{Failed, Short, Magic, Version, NotZero, SaltMismatch, Header, TooMany, Memory}
 use Rattle.instance_image.specs.declared.values.Part.{Part}
 use Rattle.instance_image.specs.Records.{Kept, uuid_in, size_in, reserved_in, IsPartAt, IsPayloadSize}
-use Rattle.instance_image.specs.Opening.{Opening, sector_call, must, ◌then◌, disk_fault, Reading, start, is_header, is_nil, part_of, header_step, with_part, HeardHeaders, HeardSoFar, HeardNext, IsRefused, IsNextCall, IsImageCall, kept_of, IsGoodSoFar, OpenOutcome}
+use Rattle.instance_image.specs.Opening.{Opening, sector_call, must, ◌then◌, disk_fault, Reading, start, is_header, is_nil, part_of, header_step, with_part, HeardHeaders, HeardSoFar, HeardNext, IsRefused, IsNextCall, IsImageCall, kept_of, OpenOutcome}
 use Rattle.instance_image.specs.Steps.{IsSector, HeardDisk, DiskOutcome, HeardHeader, HeaderOutcome}
 
 -- ---- one call

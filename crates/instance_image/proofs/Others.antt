@@ -1,6 +1,6 @@
 -- What a put leaves at a host.
-use Rattle.std.proofs.Common.{◌≡◌, ◌≢◌, ℕ, zero, suc, ◌+◌, ◌-◌, ◌*◌, ◌<◌, ◌≤◌, ◌^◌, Bool, true, false, List, [], ◌∷◌, ◌++◌, length, take, drop, replicate, Option, Some, None, Result, Ok, Err, refl, ap, sym, ◌∙◌, subst, arith, inl, inr, append_assoc, append-nil}
-use Rattle.std.specs.Prelude.{◌⊎◌, nat_eq, nat_le, ◌&&◌, if◌then◌else◌}
+use Rattle.std.proofs.Common.{◌≡◌, ◌≢◌, ℕ, zero, suc, ◌+◌, ◌-◌, ◌*◌, ◌<◌, ◌≤◌, Bool, true, false, List, [], ◌∷◌, ◌++◌, length, take, drop, replicate, Option, Some, None, Result, Ok, Err, refl, ap, sym, ◌∙◌, subst, arith, inl, inr, append_assoc, append-nil}
+use Rattle.std.specs.Prelude.{◌⊎◌, nat_eq, nat_le, if◌then◌else◌}
 use Rattle.std.specs.Str.{bytes_eq}
 use Rattle.std.specs.Map.{update}
 use Rattle.std.proofs.lemmas.Bool.Decides.{nat_tests}
@@ -9,14 +9,13 @@ use Rattle.std.proofs.lemmas.List.{length-append, length-take, length-drop, drop
 use Rattle.host_traits.specs.declared.calls.Call.{Call}
 use Rattle.host_traits.specs.declared.calls.Call.TheVariants.{BlockWrite}
 use Rattle.host_traits.specs.declared.calls.Said.{Said}
-use Rattle.host_traits.specs.declared.calls.Said.TheVariants.{Done}
 use Rattle.host_traits.specs.Held.{Held, Disk, over, serve, all_writable}
 use Rattle.host_traits.specs.Told.{Told, Made, Calm, Serves, ServesAll, failures_of, one_failure}
 use Rattle.host_traits.specs.Did.{Each}
 use Rattle.instance_image.specs.declared.faults.PutFault.{PutFault}
 use Rattle.instance_image.specs.declared.faults.PutFault.TheVariants as puts
 use Rattle.instance_image.specs.declared.values.Part.{Part}
-use Rattle.instance_image.specs.Records.{Kept, IsLaid, find_part, fits_in, keep_size, sectors_of, size_in, header_in}
+use Rattle.instance_image.specs.Records.{Kept, IsLaid, find_part, keep_size, sectors_of, size_in, header_in}
 use Rattle.instance_image.specs.Sealings.{Sealing, BeginsWith, IsOneOf}
 use Rattle.instance_image.specs.Access.{IsPutInto, IsPutting, put_call, sealing_of, record_bytes, payload_size}
 use Rattle.instance_image.specs.Promised.{HoldsRecord, HasPut, HoldsPut, HoldsStill, PutStands, PutLeaves, MayBeWritten, PutOrMemory, PutIsKept}

@@ -1,5 +1,5 @@
 -- The image that a host holds after a put.
-use Rattle.std.proofs.Common.{◌≡◌, ◌≢◌, ℕ, suc, ◌+◌, ◌-◌, ◌*◌, ◌<◌, ◌≤◌, true, false, List, [], ◌∷◌, ◌++◌, length, take, drop, Option, Some, refl, ap, sym, ◌∙◌, subst, arith, inr, append_assoc}
+use Rattle.std.proofs.Common.{◌≡◌, ◌≢◌, ℕ, suc, ◌+◌, ◌-◌, ◌*◌, ◌≤◌, true, false, List, [], ◌∷◌, ◌++◌, length, take, drop, Option, Some, refl, ap, sym, ◌∙◌, subst, arith, inr, append_assoc}
 use Rattle.std.specs.Prelude.{nat_eq, if◌then◌else◌}
 use Rattle.std.specs.List.{AllByRecursion, flat_map}
 use Rattle.std.specs.Str.{bytes_eq}
@@ -67,29 +67,29 @@ splits at [] uuid size p f = absurd cc
 splits at (s ∷ slots) uuid size p f =
     elim (bytes_eq s.uuid uuid) as (λ b. bytes_eq s.uuid uuid ≡ b → (if b then Some (part_of_slot at s) else find_part (parts_from (at + (1 + s.reserved)) slots) uuid) ≡ Some p → IsSplit at (s ∷ slots) uuid size p) [
       | true ↦ λ t e. (
-        let same : part_of_slot at s ≡ p = cc in
-        let none : at ≡ at + 0 = omega arith in
-        record {
-          before = [];
-          slot = s;
-          after = slots;
-          all = refl;
-          named = are_same s.uuid uuid t;
-          part = sym same ∙ ap (λ (n : ℕ). part_of_slot n s) none;
-          kept = λ inside. rw t refl;
-        })
+          let same : part_of_slot at s ≡ p = cc in
+          let none : at ≡ at + 0 = omega arith in
+          record {
+            before = [];
+            slot = s;
+            after = slots;
+            all = refl;
+            named = are_same s.uuid uuid t;
+            part = sym same ∙ ap (λ (n : ℕ). part_of_slot n s) none;
+            kept = λ inside. rw t refl;
+          })
       | false ↦ λ t e. (
-        let r = splits (at + (1 + s.reserved)) slots uuid size p e in
-        let far : at + (1 + s.reserved) + sectors_in r.before ≡ at + (1 + s.reserved + sectors_in r.before) = omega arith in
-        record {
-          before = s ∷ r.before;
-          slot = r.slot;
-          after = r.after;
-          all = ap (λ (l : List Slot). s ∷ l) r.all;
-          named = r.named;
-          part = r.part ∙ ap (λ (n : ℕ). part_of_slot n r.slot) far;
-          kept = λ inside. rw t (ap (λ (l : List Part). part_of_slot at s ∷ l) (r.kept inside));
-        })
+          let r = splits (at + (1 + s.reserved)) slots uuid size p e in
+          let far : at + (1 + s.reserved) + sectors_in r.before ≡ at + (1 + s.reserved + sectors_in r.before) = omega arith in
+          record {
+            before = s ∷ r.before;
+            slot = r.slot;
+            after = r.after;
+            all = ap (λ (l : List Slot). s ∷ l) r.all;
+            named = r.named;
+            part = r.part ∙ ap (λ (n : ℕ). part_of_slot n r.slot) far;
+            kept = λ inside. rw t (ap (λ (l : List Part). part_of_slot at s ∷ l) (r.kept inside));
+          })
     ] refl f
 
 -- ---- bytes

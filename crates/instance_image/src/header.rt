@@ -161,8 +161,8 @@ fn part_of(bytes: &[u8], sector: u64) -> Part
     }
 }
 
-/// What the answer for the header in this sector makes, in an image of so many sectors, after these partitions: a further one, or
-/// none, where its UUID is nil.
+/// What the answer for the header in this sector makes, in an image of so many sectors, after these
+/// partitions: a further one, or none, where its UUID is nil.
 #[tactic(auto, unfolding(crate::specs::Opening::header_step))]
 pub(crate) fn header_step(
     bytes: &[u8],

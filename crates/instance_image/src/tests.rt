@@ -32,7 +32,16 @@ fn put_over(disk: &mut [u8], at: u64, bytes: &[u8]) {
 }
 
 impl Host for TestHost {
-    ghost told = { λ h. record { faults = 0; last_failed = None; heard = None; made = None; held = None; ahead = None; scarce = true; honest = false } };
+    ghost told = { λ h. record {
+      faults = 0;
+      last_failed = None;
+      heard = None;
+      made = None;
+      held = None;
+      ahead = None;
+      scarce = true;
+      honest = false;
+    } };
 
     fn block_size(&mut self, _disk: u32) -> Result<u64, HostError> {
         Err(HostError::Memory)

@@ -1,11 +1,11 @@
 -- Sealed forms: one text each, and how long they are.
-use Rattle.std.proofs.Common.{◌≡◌, ℕ, ◌+◌, ◌≤◌, List, [], ◌∷◌, ◌++◌, length, length-append, take, drop, ap, sym, ◌∙◌, arith}
+use Rattle.std.proofs.Common.{◌≡◌, ℕ, List, ◌++◌, length, length-append, take, drop, ap, sym, ◌∙◌, arith}
 use Rattle.std.proofs.lemmas.List.{drop_at, take_at}
 use Rattle.aes_core.proofs.Words.{length-xor_bytes}
 use Rattle.aes_gcm.specs.Gcm.{seal as gcm_seal, tag, ciphertext, key_stream}
 use Rattle.aes_gcm.specs.Ghash.{block_count}
 use Rattle.aes_gcm.proofs.Streams.{opened_once, length-key_stream, length-tag}
-use Rattle.sealed_record.specs.Sealed.{sealed_form, TextsAreOne, FormsAreLonger}
+use Rattle.sealed_record.specs.Sealed.{TextsAreOne, FormsAreLonger}
 
 pub texts_are_one : TextsAreOne
 texts_are_one key header salt sealed text other long s o =

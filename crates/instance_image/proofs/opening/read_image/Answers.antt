@@ -1,4 +1,4 @@
-use Rattle.std.proofs.Common.{refl, ◌≡◌, ◌+◌, ◌∙◌, ◌++◌, ◌∷◌, [], List, length, ap, sym, subst, arith, Some, Ok}
+use Rattle.std.proofs.Common.{refl, ◌≡◌, ◌+◌, ◌∙◌, ◌++◌, ◌∷◌, [], List, length, ap, arith, Some, Ok}
 use Rattle.std.proofs.lemmas.List.{length-append}
 use Rattle.host_traits.specs.Did.{Did}
 use Rattle.instance_image.specs.declared.values.Part.{Part}
