@@ -136,8 +136,8 @@ fn last_entries(y: u8x16) -> u8x16
 // The rows moved and the columns mixed, from the entries of the S-box and their doubles.
 #[inline(always)]
 fn mixed(entries: u8x16, doubles: u8x16) -> u8x16
-    ensures { (x : List ℕ) → length x ≡ 16 → outer entries ≡ map sbox x → outer doubles ≡ map twice x
-        → outer result ≡ mix_columns (shift_rows (sub_bytes x)) }
+    ensures { (x : List ℕ) → length x ≡ 16 → outer entries ≡ map sbox x
+        → outer doubles ≡ map twice x → outer result ≡ mix_columns (shift_rows (sub_bytes x)) }
 {
     doubles.swizzle_dyn(u8x16::from_array(OWN))
         ^ (entries ^ doubles).swizzle_dyn(u8x16::from_array(NEXT))

@@ -1,6 +1,5 @@
 pub mod Finds
 pub mod Makes
 pub mod Runs
-pub mod Prefixes
 pub mod Wordings
 pub mod Plans

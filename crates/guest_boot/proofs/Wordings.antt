@@ -3,7 +3,7 @@ use Rattle.std.proofs.Common.{◌≡◌, ℕ, List, ◌++◌, Option, Result, re
 use Rattle.std.specs.Prelude.{codes, OnOk, OnErr}
 use Rattle.std.specs.Io.KnownBytes.{Appends}
 use Rattle.host_traits.specs.Streams.{SomePrefix}
-use Rattle.guest_boot.proofs.Prefixes.{appends_then, appends_then_ok, prefix_second_err}
+use Rattle.host_traits.proofs.Prefixes.{appends_then, appends_then_ok, prefix_second_err}
 use Rattle.std.specs.Fmt.{decimal}
 use Rattle.guest_boot.specs.declared.faults.BootCause.{BootCause}
 use Rattle.guest_boot.specs.declared.faults.BootCause.TheVariants.{Gpt, NoPart, Apk, File, Failed, Short, Memory}

@@ -17,7 +17,8 @@ use verity_descriptor::DescriptorFault;
 
 fn put_crcs(row: &mut Row, word: &[u8], expected: u32, found: u32)
     requires { length row.old + length word.now + 17 ≤ 256 }
-    ensures value { row.new ≡ row.old ++ (word.now ++ crc_text expected ++ space ++ crc_text found) }
+    ensures value { row.new
+        ≡ row.old ++ (word.now ++ crc_text expected ++ space ++ crc_text found) }
     ensures len { length row.new ≡ length row.old + length word.now + 17 }
 {
     row.put(word);
@@ -216,7 +217,8 @@ fn named(why: &BootCause) -> &[u8]
 /// the cause. After `Failed` a front part of it was written. It takes no memory.
 pub fn write_boot_end<L: Sink>(fault: &BootFault, log: &mut L) -> Result<(), Failed>
     ensures ok { OnOk result (Appends (L.holds log.old) (L.holds log.new) (boot_end fault.now)) }
-    ensures err { OnErr result (SomePrefix (L.holds log.old) (L.holds log.new) (boot_end fault.now)) }
+    ensures err { OnErr result
+        (SomePrefix (L.holds log.old) (L.holds log.new) (boot_end fault.now)) }
     ensures cause { HasCause (L.faults log.old) (L.faults log.new) result }
 {
     let row = front_of(fault);

@@ -1,7 +1,6 @@
 -- What is read as a store list is in its grammar, and what is in the grammar is read.
-use Rattle.std.proofs.Common.{◌≡◌, ◌<◌, ℕ, List, [], true, Result, Ok, Err, refl, sym, ap, subst, ◌∙◌, arith, inl, inr}
+use Rattle.std.proofs.Common.{◌≡◌, ◌<◌, ℕ, List, [], true, Result, Ok, Err, refl, sym, ap, subst, ◌∙◌, arith}
 use Rattle.std.specs.Prelude.{codes, IfOk}
-use Rattle.std.specs.Str.{bytes_eq}
 use Rattle.std.specs.Fmt.{decimal}
 use Rattle.text_lines.specs.declared.kinds.PlanKind.{PlanKind}
 use Rattle.text_lines.specs.declared.kinds.PlanKind.TheVariants as kinds
@@ -11,20 +10,18 @@ use Rattle.text_lines.specs.Values.{page_salt, folder_name_of, is_folder_name}
 use Rattle.text_lines.specs.Lists.{add_apart, complete_by, completed, list_of}
 use Rattle.text_lines.proofs.Lists.{completed_ok}
 use Rattle.text_lines.specs.Spelling.{◌then◌, salt_text}
-use Rattle.text_lines.proofs.Numbers.{bind_ok, chosen, text_is, number_takes, number_again, salt_takes, salt_again, folder_name_takes, folder_name_again}
+use Rattle.text_lines.proofs.Numbers.{bind_ok, number_takes, number_again, salt_takes, salt_again, folder_name_takes, folder_name_again}
 use Rattle.text_lines.proofs.Fielded.{Free, two_take, three_take, four_take, first_again, two_again, three_again, four_again, OneLine}
 use Rattle.text_lines.proofs.Printed.{free, one, printed, then_one, salt_printed, decimal_printed, name_bytes_printed}
 use Rattle.text_lines.proofs.Spelled.{folder_name_printed}
 use Rattle.text_lines.proofs.Whole.{IsRead, text_takes, text_again}
 use Rattle.guest_plan.specs.Items.{host_number}
+use Rattle.guest_plan.proofs.Words.{by_word, made_of, ok_is}
 use Rattle.guest_plan.specs.declared.store.StoreLine.{StoreLine}
 use Rattle.guest_plan.specs.declared.store.StoreLine.TheVariants as stored
 use Rattle.guest_plan.specs.declared.store.Store.{Store}
 use Rattle.guest_plan.specs.StoreItems.{numbered_of, numbered_line_of, disk_of, composite_of, verity_of, empty_of, dir_of, keep_disk_of, keep_file_of, keep_by, keep_of, store_line_of}
 use Rattle.guest_plan.specs.Stores.{IsStoreLine, store_text, store_clash, store_missing, store_header, store_of, IsStore, TellsStore}
-
-ok_is : {A : Type 0} (x y : A) → let r : Result A PlanKind = Ok x in r ≡ Ok y → x ≡ y
-ok_is x y e = cc
 
 abbrev Is : List ℕ → StoreLine → Type 0
 Is line l = IsStoreLine l × (line ≡ store_text l)
@@ -74,25 +71,19 @@ numbered_line_takes line word p first e =
     let h = three_take line f a.1 in
     record { number = is.number; name = is.name; whole = h.0 ∙ ap (λ (w : List ℕ). w then f.1 then f.2) (sym h.1 ∙ first) ∙ ap (λ (t : List ℕ). word then t) is.spelled }
 
-abbrev disk : Named → StoreLine
-disk p = stored.Disk p.0 p.1
+-- a line of a word, a number and a name
+named_line_takes : (line word : List ℕ) (make : Named → StoreLine) (l : StoreLine) → ((p : Named) → HasNumbered line word p → Is line (make p)) → first_field line ≡ word → (numbered_line_of line >>= λ p. Ok (make p)) ≡ Ok l → Is line l
+named_line_takes line word make l is first e =
+    let a = made_of (numbered_line_of line) make l e in
+    subst (Is line) a.2 (is a.0 (numbered_line_takes line word a.0 first a.1))
 
 disk_takes : (line : List ℕ) (l : StoreLine) → first_field line ≡ codes "disk" → disk_of line ≡ Ok l → Is line l
 unfolding disk_of
-disk_takes line l word e =
-    let a = bind_ok (numbered_line_of line) (λ p. Ok (disk p)) l e in
-    let is = numbered_line_takes line (codes "disk") a.0 word a.1 in
-    subst (Is line) (ok_is (disk a.0) l a.2) ((is.number, is.name), is.whole)
-
-abbrev composite : Named → StoreLine
-composite p = stored.Composite p.0 p.1
+disk_takes line l word e = named_line_takes line (codes "disk") (λ p. stored.Disk p.0 p.1) l (λ p h. ((h.number, h.name), h.whole)) word e
 
 composite_takes : (line : List ℕ) (l : StoreLine) → first_field line ≡ codes "composite" → composite_of line ≡ Ok l → Is line l
 unfolding composite_of
-composite_takes line l word e =
-    let a = bind_ok (numbered_line_of line) (λ p. Ok (composite p)) l e in
-    let is = numbered_line_takes line (codes "composite") a.0 word a.1 in
-    subst (Is line) (ok_is (composite a.0) l a.2) ((is.number, is.name), is.whole)
+composite_takes line l word e = named_line_takes line (codes "composite") (λ p. stored.Composite p.0 p.1) l (λ p h. ((h.number, h.name), h.whole)) word e
 
 abbrev verity : ℕ → List ℕ → List ℕ → StoreLine
 verity n file salt = stored.Verity n file salt
@@ -161,13 +152,8 @@ line_done x = Ok x
 keep_by_takes : (f : Four) (l : StoreLine) → keep_by f ≡ Ok l → IsKept f l
 unfolding keep_by
 keep_by_takes f l e =
-    elim (chosen (bytes_eq f.1 (codes "disk")) (keep_disk_of f.2 f.3) _ (line_done l) e) [
-      | inl h ↦ keep_disk_takes f l (text_is f.1 (codes "disk") h.0) h.1
-      | inr r1 ↦ elim (chosen (bytes_eq f.1 (codes "file")) (keep_file_of f.2 f.3) (Err kinds.Word) (line_done l) r1.1) [
-        | inl h ↦ keep_file_takes f l (text_is f.1 (codes "file") h.0) h.1
-        | inr r2 ↦ absurd (cc (r2.1))
-      ]
-    ]
+    by_word f.1 (codes "disk") (keep_disk_of f.2 f.3) _ (line_done l) (keep_disk_takes f l) (
+    by_word f.1 (codes "file") (keep_file_of f.2 f.3) (Err kinds.Word) (line_done l) (keep_file_takes f l) (λ r. absurd (cc (r)))) e
 
 keep_takes : (line : List ℕ) (l : StoreLine) → first_field line ≡ codes "keep" → keep_of line ≡ Ok l → Is line l
 unfolding keep_of
@@ -182,25 +168,12 @@ line_takes : (line : List ℕ) (l : StoreLine) → store_line_of line ≡ Ok l �
 unfolding store_line_of
 line_takes line l e =
     let w : List ℕ = first_field line in
-    elim (chosen (bytes_eq w (codes "disk")) (disk_of line) _ (line_done l) e) [
-      | inl h ↦ disk_takes line l (text_is w (codes "disk") h.0) h.1
-      | inr r1 ↦ elim (chosen (bytes_eq w (codes "composite")) (composite_of line) _ (line_done l) r1.1) [
-        | inl h ↦ composite_takes line l (text_is w (codes "composite") h.0) h.1
-        | inr r2 ↦ elim (chosen (bytes_eq w (codes "verity")) (verity_of line) _ (line_done l) r2.1) [
-          | inl h ↦ verity_takes line l (text_is w (codes "verity") h.0) h.1
-          | inr r3 ↦ elim (chosen (bytes_eq w (codes "empty")) (empty_of line) _ (line_done l) r3.1) [
-            | inl h ↦ empty_takes line l (text_is w (codes "empty") h.0) h.1
-            | inr r4 ↦ elim (chosen (bytes_eq w (codes "dir")) (dir_of line) _ (line_done l) r4.1) [
-              | inl h ↦ dir_takes line l (text_is w (codes "dir") h.0) h.1
-              | inr r5 ↦ elim (chosen (bytes_eq w (codes "keep")) (keep_of line) (Err kinds.Word) (line_done l) r5.1) [
-                | inl h ↦ keep_takes line l (text_is w (codes "keep") h.0) h.1
-                | inr r6 ↦ absurd (cc (r6.1))
-              ]
-            ]
-          ]
-        ]
-      ]
-    ]
+    by_word w (codes "disk") (disk_of line) _ (line_done l) (disk_takes line l) (
+    by_word w (codes "composite") (composite_of line) _ (line_done l) (composite_takes line l) (
+    by_word w (codes "verity") (verity_of line) _ (line_done l) (verity_takes line l) (
+    by_word w (codes "empty") (empty_of line) _ (line_done l) (empty_takes line l) (
+    by_word w (codes "dir") (dir_of line) _ (line_done l) (dir_takes line l) (
+    by_word w (codes "keep") (keep_of line) (Err kinds.Word) (line_done l) (keep_takes line l) (λ r. absurd (cc (r)))))))) e
 
 -- ---- what is spelled so is read
 

@@ -1,7 +1,6 @@
 -- What is read is in the grammar, and what is in the grammar is read.
-use Rattle.std.proofs.Common.{◌≡◌, ℕ, List, true, Option, Some, None, Result, Ok, Err, refl, sym, ap, subst, ◌∙◌, arith, inl, inr}
+use Rattle.std.proofs.Common.{◌≡◌, ℕ, List, true, Option, Some, None, Result, Ok, Err, refl, sym, ap, subst, ◌∙◌, arith}
 use Rattle.std.specs.Prelude.{codes, IfOk}
-use Rattle.std.specs.Str.{bytes_eq}
 use Rattle.std.specs.Fmt.{decimal}
 use Rattle.hex.specs.Hex.{encode_lower}
 use Rattle.mg_base.specs.declared.values.Guid.{Guid}
@@ -16,7 +15,7 @@ use Rattle.text_lines.specs.Lines.{adds, text_of}
 use Rattle.text_lines.specs.Lists.{complete_by, completed}
 use Rattle.text_lines.proofs.Lists.{completed_ok}
 use Rattle.text_lines.specs.Spelling.{◌then◌, salt_text, IsHexed}
-use Rattle.text_lines.proofs.Numbers.{bind_ok, chosen, text_is, number_takes, number_again, hex_takes, hex_again, salt_takes, salt_again, name_takes, name_again, part_takes, part_again}
+use Rattle.text_lines.proofs.Numbers.{bind_ok, number_takes, number_again, hex_takes, hex_again, salt_takes, salt_again, name_takes, name_again, part_takes, part_again}
 use Rattle.text_lines.proofs.Fielded.{Free, field_takes, field_again, two_take, three_take, four_take, five_take, first_again, two_again, three_again, four_again, five_again, OneLine}
 use Rattle.text_lines.proofs.Printed.{free, hex_printed, one, printed, then_one, salt_printed, decimal_printed, name_bytes_printed}
 use Rattle.text_lines.proofs.Spelled.{name_printed, part_printed}
@@ -30,10 +29,8 @@ use Rattle.guest_plan.specs.declared.plan.Plan.{Plan}
 use Rattle.guest_plan.specs.Items.{host_number, uuid_of, measure_of, secret_of, instance_salt_of, instance_of, blob_of, file_of, named_file_of, write_of, writedir_of, apk_fields, places_of, apk_fixed_of, apk_first_of, apk_kept_of, apk_by, apk_of, item_of}
 use Rattle.guest_plan.specs.Plans.{Known, nothing, add, missing, plan_header, plan_of, known, Tells}
 use Rattle.guest_plan.specs.Spelling.{IsDevice, IsMeasuredBy, IsHostNumber, IsItem, measure_text, how_text, item_text, IsPlan}
+use Rattle.guest_plan.proofs.Words.{by_word, made_of, ok_is}
 use Rattle.guest_plan.proofs.Uuids.{uuid_takes, uuid_again, guid_printed}
-
-ok_is : {A : Type 0} (x y : A) → let r : Result A PlanKind = Ok x in r ≡ Ok y → x ≡ y
-ok_is x y e = cc
 
 -- what a line is that reads as this item
 abbrev Is : List ℕ → Item → Type 0
@@ -177,22 +174,22 @@ named_takes line word p first e =
 abbrev write_item : NamedFile → Item
 write_item f = Line (planned.Write f.0 f.1)
 
-write_takes : (line : List ℕ) (item : Item) → first_field line ≡ codes "write" → write_of line ≡ Ok item → Is line item
-unfolding write_of
-write_takes line item word e =
-    let a = bind_ok (named_file_of line) (λ f. Ok (write_item f)) item e in
-    let h = named_takes line (codes "write") a.0 word a.1 in
-    subst (Is line) (ok_is (write_item a.0) item a.2) ((h.name, h.number), h.whole)
-
 abbrev writedir_item : NamedFile → Item
 writedir_item f = Line (planned.WriteDir f.0 f.1)
 
+-- a line of a word, a name and a number
+named_line_takes : (line word : List ℕ) (make : NamedFile → Item) (item : Item) → ((f : NamedFile) → HasNamed line word f → Is line (make f)) → first_field line ≡ word → (named_file_of line >>= λ f. Ok (make f)) ≡ Ok item → Is line item
+named_line_takes line word make item is first e =
+    let a = made_of (named_file_of line) make item e in
+    subst (Is line) a.2 (is a.0 (named_takes line word a.0 first a.1))
+
+write_takes : (line : List ℕ) (item : Item) → first_field line ≡ codes "write" → write_of line ≡ Ok item → Is line item
+unfolding write_of
+write_takes line item word e = named_line_takes line (codes "write") write_item item (λ f h. ((h.name, h.number), h.whole)) word e
+
 writedir_takes : (line : List ℕ) (item : Item) → first_field line ≡ codes "writedir" → writedir_of line ≡ Ok item → Is line item
 unfolding writedir_of
-writedir_takes line item word e =
-    let a = bind_ok (named_file_of line) (λ f. Ok (writedir_item f)) item e in
-    let h = named_takes line (codes "writedir") a.0 word a.1 in
-    subst (Is line) (ok_is (writedir_item a.0) item a.2) ((h.name, h.number), h.whole)
+writedir_takes line item word e = named_line_takes line (codes "writedir") writedir_item item (λ f h. ((h.name, h.number), h.whole)) word e
 
 -- ---- APK devices
 
@@ -312,16 +309,9 @@ apk_by_takes : (f : Four) (item : Item) → apk_by f ≡ Ok item → IsApk f ite
 unfolding apk_by
 apk_by_takes f item e =
     let w : List ℕ = first_field f.3 in
-    elim (chosen (bytes_eq w (codes "fixed")) (apk_fixed_of f) _ (item_done item) e) [
-      | inl h ↦ fixed_takes f item (text_is w (codes "fixed") h.0) h.1
-      | inr r1 ↦ elim (chosen (bytes_eq w (codes "first")) (apk_first_of f) _ (item_done item) r1.1) [
-        | inl h ↦ first_takes f item (text_is w (codes "first") h.0) h.1
-        | inr r2 ↦ elim (chosen (bytes_eq w (codes "record")) (apk_kept_of f) (Err kinds.Word) (item_done item) r2.1) [
-          | inl h ↦ kept_takes f item (text_is w (codes "record") h.0) h.1
-          | inr r3 ↦ absurd (cc (r3.1))
-        ]
-      ]
-    ]
+    by_word w (codes "fixed") (apk_fixed_of f) _ (item_done item) (fixed_takes f item) (
+    by_word w (codes "first") (apk_first_of f) _ (item_done item) (first_takes f item) (
+    by_word w (codes "record") (apk_kept_of f) (Err kinds.Word) (item_done item) (kept_takes f item) (λ r. absurd (cc (r))))) e
 
 apk_takes : (line : List ℕ) (item : Item) → first_field line ≡ codes "apk" → apk_of line ≡ Ok item → Is line item
 unfolding apk_of
@@ -335,31 +325,14 @@ item_takes : (line : List ℕ) (item : Item) → item_of line ≡ Ok item → Is
 unfolding item_of
 item_takes line item e =
     let w : List ℕ = first_field line in
-    elim (chosen (bytes_eq w (codes "secret")) (secret_of line) _ (item_done item) e) [
-      | inl h ↦ secret_takes line item (text_is w (codes "secret") h.0) h.1
-      | inr r1 ↦ elim (chosen (bytes_eq w (codes "salt")) (instance_salt_of line) _ (item_done item) r1.1) [
-        | inl h ↦ instance_salt_takes line item (text_is w (codes "salt") h.0) h.1
-        | inr r2 ↦ elim (chosen (bytes_eq w (codes "instance")) (instance_of line) _ (item_done item) r2.1) [
-          | inl h ↦ instance_takes line item (text_is w (codes "instance") h.0) h.1
-          | inr r3 ↦ elim (chosen (bytes_eq w (codes "blob")) (blob_of line) _ (item_done item) r3.1) [
-            | inl h ↦ blob_takes line item (text_is w (codes "blob") h.0) h.1
-            | inr r4 ↦ elim (chosen (bytes_eq w (codes "apk")) (apk_of line) _ (item_done item) r4.1) [
-              | inl h ↦ apk_takes line item (text_is w (codes "apk") h.0) h.1
-              | inr r5 ↦ elim (chosen (bytes_eq w (codes "file")) (file_of line) _ (item_done item) r5.1) [
-                | inl h ↦ file_takes line item (text_is w (codes "file") h.0) h.1
-                | inr r6 ↦ elim (chosen (bytes_eq w (codes "write")) (write_of line) _ (item_done item) r6.1) [
-                  | inl h ↦ write_takes line item (text_is w (codes "write") h.0) h.1
-                  | inr r7 ↦ elim (chosen (bytes_eq w (codes "writedir")) (writedir_of line) (Err kinds.Word) (item_done item) r7.1) [
-                    | inl h ↦ writedir_takes line item (text_is w (codes "writedir") h.0) h.1
-                    | inr r8 ↦ absurd (cc (r8.1))
-                  ]
-                ]
-              ]
-            ]
-          ]
-        ]
-      ]
-    ]
+    by_word w (codes "secret") (secret_of line) _ (item_done item) (secret_takes line item) (
+    by_word w (codes "salt") (instance_salt_of line) _ (item_done item) (instance_salt_takes line item) (
+    by_word w (codes "instance") (instance_of line) _ (item_done item) (instance_takes line item) (
+    by_word w (codes "blob") (blob_of line) _ (item_done item) (blob_takes line item) (
+    by_word w (codes "apk") (apk_of line) _ (item_done item) (apk_takes line item) (
+    by_word w (codes "file") (file_of line) _ (item_done item) (file_takes line item) (
+    by_word w (codes "write") (write_of line) _ (item_done item) (write_takes line item) (
+    by_word w (codes "writedir") (writedir_of line) (Err kinds.Word) (item_done item) (writedir_takes line item) (λ r. absurd (cc (r)))))))))) e
 
 -- ---- what is spelled so is read
 

@@ -90,7 +90,9 @@ pub fn write_idsig(
     ensures again { OnOk result
         (IsIdsig (idsig_bytes salt.now root.now.0 signing.now tree.now)
         (head_for salt.now root.now signing.now tree.now)) }
-    ensures read { OnOk result (head_of (take 69632 (idsig_bytes salt.now root.now.0 signing.now tree.now)) (length (idsig_bytes salt.now root.now.0 signing.now tree.now))
+    ensures read { OnOk result
+        (head_of (take 69632 (idsig_bytes salt.now root.now.0 signing.now tree.now))
+        (length (idsig_bytes salt.now root.now.0 signing.now tree.now))
         ≡ Ok (head_for salt.now root.now signing.now tree.now)) }
     ensures unchanged { OnErr result (out.new.items ≡ out.old.items) }
 {

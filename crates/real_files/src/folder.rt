@@ -5,7 +5,7 @@ ghost use Rattle.host_traits.specs.Folders.{HasErrand, errand_of};
 
 use crate::loading::{read_file, read_part};
 use crate::storing::store_file;
-use host_traits::{Folder, FolderCall, FolderError};
+use host_traits::{Folder, FolderCall, FolderError, FolderResult};
 use std::alloc::Global;
 use std::fs::File;
 use std::io::{self, ErrorKind};
@@ -44,7 +44,7 @@ impl<'a, R> RealFolder<'a, R> {
     }
 
     // What a call answers that ended so: want of memory is no failure, all else is one.
-    fn answer<T>(&mut self, call: FolderCall, ended: io::Result<T>) -> Result<T, FolderError>
+    fn answer<T>(&mut self, call: FolderCall, ended: io::Result<T>) -> FolderResult<T>
         ensures value { IfOk result (λ done. ended ≡ Ok done) }
         ensures cause { HasErrand (errand_of call) self.old.faults self.new.faults
             (option_map errand_of self.old.last) (option_map errand_of self.new.last) result }
@@ -69,7 +69,7 @@ impl<R: Files<File = File>> Folder for RealFolder<'_, R> {
 
     ghost last_failed = { λ f. option_map errand_of f.last };
 
-    fn load(&mut self, alloc: Global, name: &str, max: u64) -> Result<Vec<u8>, FolderError> {
+    fn load(&mut self, alloc: Global, name: &str, max: u64) -> FolderResult<Vec<u8>> {
         let Ok(copy) = String::from_str(alloc, name) else {
             return Err(FolderError::Memory);
         };
@@ -77,13 +77,7 @@ impl<R: Files<File = File>> Folder for RealFolder<'_, R> {
         self.answer(FolderCall::Load(copy), bytes)
     }
 
-    fn load_part(
-        &mut self,
-        alloc: Global,
-        name: &str,
-        at: u64,
-        max: u64,
-    ) -> Result<Vec<u8>, FolderError> {
+    fn load_part(&mut self, alloc: Global, name: &str, at: u64, max: u64) -> FolderResult<Vec<u8>> {
         let Ok(copy) = String::from_str(alloc, name) else {
             return Err(FolderError::Memory);
         };
@@ -91,7 +85,7 @@ impl<R: Files<File = File>> Folder for RealFolder<'_, R> {
         self.answer(FolderCall::Load(copy), part)
     }
 
-    fn store(&mut self, alloc: Global, name: &str, bytes: &[u8]) -> Result<(), FolderError> {
+    fn store(&mut self, alloc: Global, name: &str, bytes: &[u8]) -> FolderResult<()> {
         let Ok(copy) = String::from_str(alloc, name) else {
             return Err(FolderError::Memory);
         };

@@ -9,7 +9,8 @@ use std::rt::Files;
 // The bytes that a file has left, but at most so many, into memory with room for `room` of them.
 fn read_most<F: Read + Drop>(file: F, alloc: Global, most: u64, room: u64) -> io::Result<Vec<u8>>
     ensures few { IfOk result (λ bytes. vec_len bytes ≤ most) }
-    ensures bytes { IfSome (F.remaining file) (λ left. IfOk result (λ bytes. bytes.items ≡ take most left)) }
+    ensures bytes { IfSome (F.remaining file)
+        (λ left. IfOk result (λ bytes. bytes.items ≡ take most left)) }
 {
     let mut bytes = Vec::with_capacity(alloc, (room.min(most) as usize).saturating_add(1))?;
     file.take(most).read_to_end(&mut bytes)?;

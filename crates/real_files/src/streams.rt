@@ -24,7 +24,8 @@ fn read_some<R: Read>(stream: &mut R, out: &mut [u8]) -> io::Result<usize>
 // Writes all bytes, and goes on after an interrupt. After an error a prefix of them was written.
 fn write_whole<W: Write>(stream: &mut W, bytes: &[u8]) -> io::Result<()>
     ensures ok { OnOk result (Appends (W.contents stream.old) (W.contents stream.new) bytes.now) }
-    ensures err { OnErr result (SomePrefix (W.contents stream.old) (W.contents stream.new) bytes.now) }
+    ensures err { OnErr result
+        (SomePrefix (W.contents stream.old) (W.contents stream.new) bytes.now) }
 {
     let mut done = 0;
     for _ in 0..u64::MAX {

@@ -79,8 +79,8 @@ fn ask_parts<H: Host>(
     requires within { index < pages_at geometry.now level }
     requires blocks { first + 8 * index < 2 ^ 64 }
     requires room { tree + 4096 * tree_pages geometry.now < 2 ^ 64 }
-    ensures asked { Asked (parts_call disk first tree geometry.now level index) [] (λ _. Bytes raw.new) result
-        (H.told host.old) (H.told host.new) }
+    ensures asked { Asked (parts_call disk first tree geometry.now level index) []
+        (λ _. Bytes raw.new) result (H.told host.old) (H.told host.new) }
     ensures fills { Fills (parts_asked tree geometry.now level index) result raw.new }
 {
     if level == 0 {
@@ -104,8 +104,8 @@ pub(crate) fn ask<H: Host>(
     requires low { level ≤ top geometry.now }
     requires within { index < pages_at geometry.now level }
     requires suits { Suits layout.now geometry.now }
-    ensures asked { Asked (call_for layout.now geometry.now level index) [] (λ _. Bytes raw.new) result
-        (H.told host.old) (H.told host.new) }
+    ensures asked { Asked (call_for layout.now geometry.now level index) []
+        (λ _. Bytes raw.new) result (H.told host.old) (H.told host.new) }
     ensures fills { Fills (asked_for layout.now geometry.now level index) result raw.new }
 {
     match *layout {

@@ -1,4 +1,4 @@
-use Rattle.fuse_codec.proofs.Prefixes.{prefix_first, prefix_second_err, appends_then_ok}
+use Rattle.host_traits.proofs.Prefixes.{prefix_first, prefix_second_err, appends_then_ok}
 use Rattle.fuse_codec.proofs.writing.send.Goals as goal
 
 pub returns-in-Err-clause-writes : goal.returns-in-Err-clause-writes

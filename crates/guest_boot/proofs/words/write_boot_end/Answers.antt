@@ -1,7 +1,7 @@
 use Rattle.std.proofs.Common.{◌++◌, ◌∙◌, subst}
 use Rattle.host_traits.specs.Streams.{SomePrefix}
 use Rattle.guest_boot.specs.Wording.{front, named, line_feed}
-use Rattle.guest_boot.proofs.Prefixes.{prefix_first, prefix_second}
+use Rattle.host_traits.proofs.Prefixes.{prefix_first, prefix_second}
 use Rattle.guest_boot.proofs.Wordings.{whole_end, three_ok, three_err}
 use Rattle.guest_boot.proofs.words.write_boot_end.Goals as goal
 
