@@ -1,6 +1,7 @@
 -- A session, frame by frame.
-use Rattle.std.proofs.Common.{◌≡◌, ℕ, ◌+◌, ◌-◌, ◌^◌, ◌<◌, ◌≤◌, min, List, [], ◌∷◌, ◌++◌, length, refl, sym, ap, subst, ◌∙◌, append_assoc, arith, Option, Some, Err}
-use Rattle.std.specs.Prelude.{◌⊎◌}
+use Rattle.std.proofs.Common.{◌≡◌, ℕ, ◌+◌, ◌-◌, ◌^◌, ◌<◌, ◌≤◌, min, List, [], ◌∷◌, ◌++◌, length, refl, sym, ap, subst, ◌∙◌, append_assoc, arith, Bool, true, false, Option, Some, None, Err}
+use Rattle.std.specs.Prelude.{◌⊎◌, ◌||◌, nat_lt}
+use Rattle.std.proofs.lemmas.Bool.Decides.{nat_tests}
 use Rattle.std.specs.Io.KnownBytes.{Appends}
 use Rattle.std.proofs.lemmas.List.{length-append}
 use Rattle.host_traits.specs.Told.{Told, Exchanges, IsHeardSize, heard_size}
@@ -14,7 +15,7 @@ use Rattle.guest_rules.specs.Machine.{Setting, State, Turn}
 use Rattle.guest_rules.specs.Run.{IsEarly, Runs, Ran, frames_of, log_line, frame_size}
 use Rattle.guest_rules.proofs.Runs.{turns_size, turn_of, ran_none, ran_one, ran_both, frames_both, runs_both, runs_one, written_both, logged_both}
 use Rattle.guest_cli.specs.Turns.{Taken, framed}
-use Rattle.guest_cli.specs.Session.{Answered, AnsweredOver, RanCut, HeardMuch, HeldOutcome, PieceOutcome}
+use Rattle.guest_cli.specs.Session.{is_unbuilt, Answered, AnsweredOver, RanCut, HeardMuch, HeldOutcome, PieceOutcome}
 use Rattle.guest_cli.specs.declared.session.Stop.{Stop}
 use Rattle.guest_cli.specs.declared.session.Stop.TheVariants as stop
 
@@ -36,6 +37,14 @@ early_by (Some heard) few = few heard refl
 
 pub is_early : (told : Told) (n : ℕ) → IsHeardSize told.heard n → n < 1073741824 → IsEarly told.heard
 is_early told n is lt = early_by told.heard (few_heard told n is lt)
+
+first_false : (a b : Bool) → (a || b) ≡ false → a ≡ false
+first_false true b e = absurd cc
+first_false false b e = refl
+
+-- a frame that is served is of channel 0 or 1
+pub built : (channel : ℕ) (payload : List ℕ) → is_unbuilt channel payload ≡ false → channel < 2
+built channel payload e = let f = first_false (nat_lt 1 channel) _ e in grind (arith, nat_tests, f)
 
 pub much_heard : (told : Told) (n : ℕ) → IsHeardSize told.heard n → 1073741824 ≤ n → HeardMuch told
 much_heard told n is le heard e = let m = told_size told.heard n heard is e in omega (arith, m, le)

@@ -33,6 +33,11 @@ impl Model for Engine {
 
     ghost Value = { Works };
 
+    ghost use Rattle.std.specs.Coded.{codes};
+    ghost use Rattle.std.specs.FinMap as table;
+
+    ghost coded = { Prim.hlevel (codes, table.code) };
+
     ghost view = { λ e. record {
       setting = record { items = e.items.items };
       state = record { fuse = e.server; entropy = e.entropy };
