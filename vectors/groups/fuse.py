@@ -350,6 +350,14 @@ def reads():
         session.ask("read", node, session.server.files[node].content[at:at + size], fh=node - 1, offset=at, size=size)
         session.read(0, 3 * at, size % 5000)
     yield served(session, "channels mixed", "READs of four files, one under a salt and one of two levels, and measured reads of a device between them")
+    small = Session(EMPTY, File("one", 5, counted(1)), File("page", 6, counted(4096)), File("pages", 7, counted(8192), b"\3"))
+    small.ask("init", 0, **INIT)
+    for node, length in ((2, 0), (3, 1), (4, 4096), (5, 8192)):
+        small.ask("open", node, ("opened", node - 1))
+        last = max(length - 1, 0)
+        for at, size in ((0, MOST), (0, 1), (last, 1), (last, 2), (length, 1), (length + 1, 4096), *((at, 1000) for at in range(0, length, 1000))):
+            small.ask("read", node, small.server.files[node].content[at:at + size], fh=node - 1, offset=at, size=size)
+    yield served(small, "sizes of files", "no byte, one, one block and two under a salt: whole, in pieces, at their ends and past them; what is asked is on the tape")
     many = Session(A)
     many.ask("init", 0, **INIT)
     for k in range(4096):

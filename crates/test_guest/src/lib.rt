@@ -9,6 +9,8 @@ mod maps;
 #[cfg(test)]
 mod outcome;
 #[cfg(test)]
+mod pages;
+#[cfg(test)]
 mod setting;
 #[cfg(test)]
 mod tables;
