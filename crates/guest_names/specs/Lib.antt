@@ -1,0 +1,3 @@
+pub mod Standing
+pub mod Planted
+pub mod Promises
