@@ -1,13 +1,10 @@
 -- What boot makes of the lines that name files.
-use Rattle.std.proofs.Common.{if◌then◌else◌, ◌≡◌, ◌<◌, ◌≤◌, ◌+◌, ◌^◌, ℕ, zero, suc, Bool, true, false, List, [], ◌∷◌, ◌++◌, length, get_or, Option, Some, None, Result, Ok, Err, refl, sym, ap, ◌∙◌, subst, inl, inr, arith, append_assoc, append-nil}
-use Rattle.std.specs.Prelude.{nat_lt}
+use Rattle.std.proofs.Common.{◌≡◌, ◌+◌, ℕ, List, [], ◌∷◌, ◌++◌, length, Option, Some, None, refl, sym, ap, ◌∙◌, subst, inl, inr, arith, append_assoc, append-nil}
 use Rattle.std.proofs.lemmas.List.{length-append}
-use Rattle.mg_base.specs.declared.values.Digest.{Digest}
 use Rattle.host_traits.specs.declared.calls.Call.TheVariants.{Descriptor as DescriptorOf}
 use Rattle.host_traits.specs.declared.calls.Said.TheVariants.{Bytes}
 use Rattle.host_traits.specs.Told.{Exchanges}
 use Rattle.host_traits.specs.Did.{IsIn}
-use Rattle.host_traits.proofs.Doing.{in_left, in_right}
 use Rattle.ro_file.specs.Files.{MeasuredFile, IsReadable, file_of}
 use Rattle.ro_file.specs.Opening.{Describes, WasOpened}
 use Rattle.ro_file.proofs.Standing.{opened_left, opened_right}

@@ -1,6 +1,6 @@
 -- What holds of the server that stands after boot: how its files were opened, which names are found, and that it is such as
 -- the laws of what it answers ask.
-use Rattle.std.specs.Prelude.{◌≡◌, ◌<◌, ◌≤◌, ◌+◌, ℕ, List, ◌∷◌, ◌++◌, length, Some, Ok}
+use Rattle.std.specs.Prelude.{◌≡◌, ◌+◌, ℕ, List, ◌∷◌, ◌++◌, length, Some, Ok}
 use Rattle.mg_base.specs.declared.values.Digest.{Digest}
 use Rattle.host_traits.specs.Told.{Exchanges}
 use Rattle.ro_file.specs.Files.{MeasuredFile, IsReadable}
