@@ -13,7 +13,8 @@ use Rattle.fuse_codec.specs.Reply as reply
 use Rattle.fuse_codec.specs.Reply.{Answer}
 use Rattle.fuse_server.specs.State.{State, Files, file_at, as_file, attr_of, live, live_file, held}
 use Rattle.fuse_server.specs.Aims.{Aim, says, makes, reads, is_old, init_aim, lookup_aim, getattr_aim, setattr_aim, size_refusal, asks_size, open_aim, read_aim, write_aim, handled_aim, add_aim, remove_aim, statfs_aim, ready_aim, message_aim, aim_of}
-use Rattle.fuse_server.specs.Effects.{Next, Becomes, UnlessRefused, counted}
+use Rattle.fuse_server.specs.Effects.{Becomes, UnlessRefused, counted}
+use Rattle.fuse_server.specs.Serving.{FilesStay}
 
 -- ---- the files stay
 
@@ -66,7 +67,7 @@ module _ (s new : State) where
   becomes node statfs a u = kept a u
   becomes node destroy a u = unless _ a u (λ d. d.files)
 
-pub files_stay : (s : State) (m : Result Message Bad) (a : Answer) (new : State) → Next s m a new → new.files ≡ s.files
+pub files_stay : FilesStay
 files_stay s (Ok m) a new u = becomes s new m.node m.asked a u
 files_stay s (Err bad) a new u = rw u refl
 

@@ -33,6 +33,10 @@ IsUnknown (Ok m) = IsUnserved m.asked
 IsUnknown (Err (bad_opcode unique op)) = Unit {0}
 IsUnknown (Err other) = ⊥
 
+-- Law: whatever is answered, the files stay.
+abbrev pub FilesStay : Type 0
+FilesStay = (s : State) (m : Result Message Bad) (a : Answer) (new : State) → Next s m a new → new.files ≡ s.files
+
 -- Law: whatever is answered, such names stay so.
 abbrev pub ServedStay : Type 0
 ServedStay = (s : State) (m : Result Message Bad) (a : Answer) (new : State) → Next s m a new → AreServed s.names s.files → AreServed new.names new.files

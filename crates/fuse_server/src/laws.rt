@@ -1,5 +1,5 @@
 // Laws of what is answered.
-ghost use Rattle.fuse_server.specs.Serving.{ServedStay, AllIsServed};
+ghost use Rattle.fuse_server.specs.Serving.{FilesStay, ServedStay, AllIsServed};
 ghost use Rattle.fuse_server.specs.Ties.{TiedAtFirst, TiesStay};
 
 /// Over names whose nodes are directories that the host doesn't have and read-only files that are there, ENOSYS is answered to
@@ -8,6 +8,11 @@ ghost use Rattle.fuse_server.specs.Ties.{TiedAtFirst, TiesStay};
 pub fn names_stay_served()
     ensures stay { ServedStay }
     ensures all { AllIsServed }
+{}
+
+/// No message changes the read-only files. Its contract is the law; it does nothing.
+pub fn files_stay()
+    ensures { FilesStay }
 {}
 
 /// Over names whose nodes count no open handle, a new server's handles and nodes are tied, and stay so whatever is answered: the

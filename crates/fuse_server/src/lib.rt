@@ -13,5 +13,5 @@ mod server;
 
 pub use crate::answer::FuseAnswer;
 pub use crate::files::Files;
-pub use crate::laws::{handles_stay_tied, names_stay_served};
+pub use crate::laws::{files_stay, handles_stay_tied, names_stay_served};
 pub use crate::server::Server;
