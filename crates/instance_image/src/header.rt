@@ -1,8 +1,8 @@
 // The sectors of an image: the first one, and the headers of partitions.
-ghost use Rattle.std.specs.Prelude.{◌≡◌, ◌+◌, ◌*◌, ◌<◌, ◌≤◌, ◌^◌, ◌++◌, length, take, drop, IfOk, IfSome, MatchOption, None, Some};
+ghost use Rattle.std.specs.Prelude.{◌≡◌, ◌+◌, ◌*◌, ◌<◌, ◌≤◌, ◌^◌, ◌++◌, length, take, drop, MatchOption, None, Some};
 ghost use Rattle.std.specs.Str.{bytes_eq};
 ghost use Rattle.std.specs.Int.{w16, w32, w64, from_le_bytes};
-ghost use Rattle.instance_image.specs.Records.{part_at, header_of, uuid_in, size_in, reserved_in, find_part, IsPartAt};
+ghost use Rattle.instance_image.specs.Records.{part_at, header_of, find_part};
 ghost use Rattle.instance_image.specs.Opening.{disk_fault, magic, is_zero, is_header, is_payload_size, header_step, part_of};
 
 use crate::faults::ImageFault;

@@ -1,9 +1,8 @@
 // Reading and writing the records of an image.
-ghost use Rattle.std.specs.Prelude.{◌≡◌, ◌⊎◌, ◌+◌, ◌-◌, ◌*◌, ◌/◌, ◌<◌, ◌≤◌, ◌^◌, ◌++◌, length, take, [], None, Some, Ok, Err, IfOk, OnOk, vec_len, option_map, Result};
-ghost use Rattle.std.specs.List.{AllByRecursion};
+ghost use Rattle.std.specs.Prelude.{◌≡◌, ◌⊎◌, ◌+◌, ◌-◌, ◌*◌, ◌/◌, ◌<◌, ◌≤◌, ◌^◌, ◌++◌, length, take, [], None, Some, Ok, Err, IfOk, vec_len, Result};
 ghost use Rattle.host_traits.specs.Did.{Did, DidBy};
-ghost use Rattle.instance_image.specs.Records.{header_in, find_part, size_of, fits, fits_in, fitting, keep_size, room_of, is_large, sectors_of, header_of, zeros, IsLaid, IsPartAt, IsPayloadSize};
-ghost use Rattle.instance_image.specs.Sealings.{record_key, sealed_of};
+ghost use Rattle.instance_image.specs.Records.{header_in, find_part, size_of, fits, fits_in, keep_size, room_of, is_large, sectors_of, header_of, zeros, IsLaid};
+ghost use Rattle.instance_image.specs.Sealings.{record_key};
 ghost use Rattle.instance_image.specs.Access.{IsGetCall, GetOutcome, AnswerOutcome, payload_in, IsPutting, PutOutcome, record_bytes, sealing_of, payload_size};
 ghost use Rattle.instance_image.specs.Promised.{RecordIsGot, PutIsKept};
 ghost use Rattle.instance_image.specs.Fitting.{Changes, Unsealed};

@@ -4,7 +4,7 @@
 
 ghost use Rattle.std.specs.Prelude.{◌≡◌, ◌≢◌, ◌↔◌, ℕ, ◌+◌, ◌-◌, ◌<◌, ◌≤◌, ◌++◌, ◌⊎◌, List, length, take, drop, vec_len, vec_capacity, IsOk, IfErr, IfOk, OnErr, OnOk, MatchOption};
 ghost use Rattle.sealed_record.specs.Sealed.{IsSealed, IsSealedLength, TextsAreOne, FormsAreLonger, nonce_in, right_tag, sealed_form, tag_for, tag_in};
-ghost use Rattle.aes_gcm.specs.Gcm.{seal as gcm_seal, tag as gcm_tag};
+ghost use Rattle.aes_gcm.specs.Gcm.{seal as gcm_seal};
 
 pub use aes_gcm::Tag;
 use aes_gcm::{open_in_place, seal_in_place};
