@@ -1,21 +1,23 @@
 -- A session, frame by frame.
-use Rattle.std.proofs.Common.{◌≡◌, ℕ, ◌+◌, ◌-◌, ◌^◌, ◌<◌, ◌≤◌, min, List, [], ◌∷◌, ◌++◌, length, refl, sym, ap, subst, ◌∙◌, append_assoc, arith, Bool, true, false, Option, Some, None, Err}
-use Rattle.std.specs.Prelude.{◌⊎◌, ◌||◌, nat_lt}
+use Rattle.std.proofs.Common.{◌≡◌, ℕ, ◌+◌, ◌-◌, ◌^◌, ◌<◌, ◌≤◌, min, List, [], ◌∷◌, ◌++◌, length, refl, sym, ap, subst, ◌∙◌, append_assoc, arith, Bool, true, false, inr, Option, Some, None, Result, Ok, Err}
+use Rattle.std.specs.Prelude.{◌⊎◌, ◌||◌, nat_lt, OnOk, OnErr}
 use Rattle.std.proofs.lemmas.Bool.Decides.{nat_tests}
 use Rattle.std.specs.Io.KnownBytes.{Appends}
 use Rattle.std.proofs.lemmas.List.{length-append}
 use Rattle.host_traits.specs.Told.{Told, Exchanges, IsHeardSize, heard_size}
 use Rattle.host_traits.specs.Streams.{SomePrefix}
 use Rattle.session_frames.specs.Frames.{Held, Framed, Fronts, frame, bytes_of}
-use Rattle.session_frames.specs.Replies.{reply_frame}
+use Rattle.session_frames.specs.Replies.{Sent, reply_frame}
+use Rattle.verity_path.specs.declared.device.Cause.{Cause}
+use Rattle.guest_rules.specs.Step.{Stepped}
 use Rattle.session_frames.proofs.Heads.{held_at}
 use Rattle.session_frames.proofs.Sessions.{went_not, went_on, over_not, over_on}
 use Rattle.session_frames.proofs.Streams.{length_of_bytes}
-use Rattle.guest_rules.specs.Machine.{Setting, State, Turn}
+use Rattle.guest_rules.specs.Machine.{Setting, State, Turn, is_unbuilt}
 use Rattle.guest_rules.specs.Run.{IsEarly, Runs, Ran, frames_of, log_line, frame_size}
 use Rattle.guest_rules.proofs.Runs.{turns_size, turn_of, ran_none, ran_one, ran_both, frames_both, runs_both, runs_one, written_both, logged_both}
-use Rattle.guest_cli.specs.Turns.{Taken, framed}
-use Rattle.guest_cli.specs.Session.{is_unbuilt, Answered, AnsweredOver, RanCut, HeardMuch, HeldOutcome, PieceOutcome}
+use Rattle.guest_cli.specs.Turns.{Taken, TurnOutcome, framed}
+use Rattle.guest_cli.specs.Session.{Answered, AnsweredOver, RanCut, HeardMuch, HeldOutcome, PieceOutcome}
 use Rattle.guest_cli.specs.declared.session.Stop.{Stop}
 use Rattle.guest_cli.specs.declared.session.Stop.TheVariants as stop
 
@@ -45,6 +47,13 @@ first_false false b e = refl
 -- a frame that is served is of channel 0 or 1
 pub built : (channel : ℕ) (payload : List ℕ) → is_unbuilt channel payload ≡ false → channel < 2
 built channel payload e = let f = first_false (nat_lt 1 channel) _ e in grind (arith, nat_tests, f)
+
+-- a frame whose line was written, and its reply, or a part of it
+pub turn_written : {E : Type 0} (g : Setting) (r s : State) (a b : Told) (at : ℕ) (out_a out_b log_a log_b : Option (List ℕ)) (channel : ℕ) (payload : List ℕ) (sent : Sent) (cause : Option Cause) (result : Result (Unit {0}) E)
+    → Stepped g r s a b (framed channel payload) sent cause → Appends log_a log_b (log_line at cause)
+    → OnOk result (Appends out_a out_b (reply_frame sent)) → OnErr result (SomePrefix out_a out_b (reply_frame sent)) → TurnOutcome g r s a b at out_a out_b log_a log_b channel payload result
+turn_written g r s a b at out_a out_b log_a log_b channel payload sent cause (Ok u) step logged ok err = record { sent = sent; cause = cause; step = step; written = (ok, logged) }
+turn_written g r s a b at out_a out_b log_a log_b channel payload sent cause (Err e) step logged ok err = record { sent = sent; cause = cause; step = step; written = inr (err, logged) }
 
 pub much_heard : (told : Told) (n : ℕ) → IsHeardSize told.heard n → 1073741824 ≤ n → HeardMuch told
 much_heard told n is le heard e = let m = told_size told.heard n heard is e in omega (arith, m, le)

@@ -1,5 +1,5 @@
 -- The rows of a request, from the work that was done for it.
-use Rattle.std.proofs.Common.{◌≡◌, ℕ, ◌<◌, ◌≤◌, List, [], length, take, drop, refl, ap, sym, subst, ◌∙◌, Ok, Err, Option, Some, None, Result, arith, inl, inr}
+use Rattle.std.proofs.Common.{◌≡◌, ℕ, ◌<◌, ◌≤◌, List, [], length, take, drop, refl, ap, sym, subst, ◌∙◌, Ok, Err, Option, Some, None, Result, true, false, arith, inl, inr}
 use Rattle.std.specs.Prelude.{slice_get, IfSome, ◌⊎◌}
 use Rattle.std.proofs.lemmas.Option.{slice_get_within}
 use Rattle.mg_base.specs.declared.errno.Errno.{Errno}
@@ -27,11 +27,11 @@ use Rattle.fuse_server.specs.State.{State as Fuse}
 use Rattle.fuse_server.specs.Aims.{Aim, says, makes, reads as reads_file, aim_of, number_of}
 use Rattle.fuse_server.specs.Effects.{Next}
 use Rattle.fuse_server.specs.Rows.{FuseRow, ReadRow, read_bytes, read_blamed, read_no_room, IsForFuse, most_for_fuse, FuseIsRight, answer_by}
-use Rattle.guest_rules.specs.Machine.{Setting, State, nowhere, item_read, size_of, request_of}
+use Rattle.guest_rules.specs.Machine.{Setting, State, nowhere, item_read, size_of, message_of, request_of, is_unbuilt}
 use Rattle.guest_rules.specs.ItemRow.{IsForItem, no_item, too_large, served, blamed, no_memory}
 use Rattle.guest_rules.specs.MessageRow.{IsOfFile}
 use Rattle.guest_rules.specs.Step.{Stepped, answers_of, most_for}
-use Rattle.guest_rules.specs.Faithful.{IsDefined, over_limit, whole, no_room, IsReadDefined, slice, no_memory as short_of_memory, ItemIsServed, MessageIsServed}
+use Rattle.guest_rules.specs.Faithful.{IsDefined, over_limit, whole, no_room, IsReadDefined, slice, no_memory as short_of_memory, ItemIsServed, MessageIsServed, RequestIsServed}
 use Rattle.guest_rules.proofs.Runs.{stepped}
 use Rattle.guest_cli.specs.Turns.{framed}
 use Rattle.guest_cli.specs.Works.{answer_to_read, message_frame}
@@ -55,23 +55,23 @@ large_served g a payload large it at = record { right = λ h content calm held h
 same_item : (a b : Device) → Some a ≡ Some b → a ≡ b
 same_item a b e = cc
 
-module _ (g : Setting) (state : State) (a b : Told) (payload : List ℕ) (it : Device) (there : (item_read payload).item < length g.items) (at : slice_get g.items (item_read payload).item ≡ Some it) (fits : (item_read payload).size ≤ 131072) where
-  few : most_answers it.measure (size_of it) (item_read payload).offset (item_read payload).size ≤ most_for g state (request_of (framed 1 payload))
-  few = let same : answers_of (slice_get g.items (item_read payload).item) (item_read payload) ≡ most_answers it.measure (size_of it) (item_read payload).offset (item_read payload).size = ap (λ o. answers_of o (item_read payload)) at in omega (arith, same)
+module _ (g : Setting) (a b : Told) (payload : List ℕ) (it : Device) (there : (item_read payload).item < length g.items) (at : slice_get g.items (item_read payload).item ≡ Some it) (fits : (item_read payload).size ≤ 131072) where
+  few : (state : State) → most_answers it.measure (size_of it) (item_read payload).offset (item_read payload).size ≤ most_for g state (request_of (framed 1 payload))
+  few state = let same : answers_of (slice_get g.items (item_read payload).item) (item_read payload) ≡ most_answers it.measure (size_of it) (item_read payload).offset (item_read payload).size = ap (λ o. answers_of o (item_read payload)) at in omega (arith, same)
 
   abbrev pub Work : List ℕ → Result (Unit {0}) WalkFault → Type 0
   Work bytes r = Did (IsForItem it (item_read payload)) (most_answers it.measure (size_of it) (item_read payload).offset (item_read payload).size) a b (RangeOutcome it.layout it.measure (size_of it) (item_read payload).offset (item_read payload).size bytes r)
 
-  pub read_step : (bytes : List ℕ) (r : Result (Unit {0}) WalkFault) → Work bytes r → Stepped g state state a b (framed 1 payload) (sent_if (answer_to_read r).reply bytes) (answer_to_read r).cause
-  read_step bytes (Ok u) d = stepped g state state a b (framed 1 payload) _ _ _ _ _ d (λ call given for. (it, at, for)) few
+  pub read_step : (state : State) (bytes : List ℕ) (r : Result (Unit {0}) WalkFault) → Work bytes r → Stepped g state state a b (framed 1 payload) (sent_if (answer_to_read r).reply bytes) (answer_to_read r).cause
+  read_step state bytes (Ok u) d = stepped g state state a b (framed 1 payload) _ _ _ _ _ d (λ call given for. (it, at, for)) (few state)
       (λ own failed cut. (refl, served it bytes at fits cut.0 cut.2 cut.3 cut.1))
-  read_step bytes (Err (fault.Mismatch x)) d = stepped g state state a b (framed 1 payload) _ _ _ _ _ d (λ call given for. (it, at, for)) few
+  read_step state bytes (Err (fault.Mismatch x)) d = stepped g state state a b (framed 1 payload) _ _ _ _ _ d (λ call given for. (it, at, for)) (few state)
       (λ own failed blame. (refl, blamed it (cause.Mismatch x) at fits blame.0 blame.1 blame.2))
-  read_step bytes (Err (fault.Short asked got)) d = stepped g state state a b (framed 1 payload) _ _ _ _ _ d (λ call given for. (it, at, for)) few
+  read_step state bytes (Err (fault.Short asked got)) d = stepped g state state a b (framed 1 payload) _ _ _ _ _ d (λ call given for. (it, at, for)) (few state)
       (λ own failed blame. (refl, blamed it (cause.Short asked got) at fits blame.0 blame.1 blame.2))
-  read_step bytes (Err (fault.Failed faults)) d = stepped g state state a b (framed 1 payload) _ _ _ _ _ d (λ call given for. (it, at, for)) few
+  read_step state bytes (Err (fault.Failed faults)) d = stepped g state state a b (framed 1 payload) _ _ _ _ _ d (λ call given for. (it, at, for)) (few state)
       (λ own failed blame. (refl, blamed it (cause.Failed faults) at fits blame.0 blame.1 blame.2))
-  read_step bytes (Err fault.Memory) d = stepped g state state a b (framed 1 payload) _ _ _ _ _ d (λ call given for. (it, at, for)) few
+  read_step state bytes (Err fault.Memory) d = stepped g state state a b (framed 1 payload) _ _ _ _ _ d (λ call given for. (it, at, for)) (few state)
       (λ own failed none. (refl, no_memory it at fits none.0 none.1 none.2))
 
   -- what a read that ended so is answered, where its bytes are the content's or there was no memory
@@ -116,11 +116,17 @@ of_none (Ok (says x)) answer = tt
 of_none (Ok (makes x)) answer = tt
 of_none (Ok (reads_file f offset size)) answer = tt
 
-module _ (g : Setting) (s t : State) (a b : Told) (payload : List ℕ) (reply : Option FuseReply) (bytes : List ℕ) (c : Option Cause) (number : IfSome reply (λ r. unique_of r ≡ number_of (decoded payload)))
-    (did : Did (IsForFuse (aim_of s.fuse (decoded payload))) (most_for_fuse (aim_of s.fuse (decoded payload))) a b (λ t. FuseRow (aim_of s.fuse (decoded payload)) t (answer_by reply bytes) c)) where
-  pub message_step : Next s.fuse (decoded payload) (answer_by reply bytes) t.fuse → t.entropy ≡ s.entropy → Stepped g s t a b (framed 0 payload) (sent_if (message_frame reply) bytes) c
-  message_step next same = stepped g s t a b (framed 0 payload) _ _ _ _ _ did (λ call given for. for) (omega arith)
-      (λ own failed row. (same, record { answer = answer_by reply bytes; sent_is = message_sent_is (decoded payload) reply bytes number; row = row; slice = of_none (aim_of s.fuse (decoded payload)) (answer_by reply bytes); next = next }))
+module _ (s : Fuse) (a b : Told) (payload : List ℕ) (reply : Option FuseReply) (bytes : List ℕ) (c : Option Cause) (number : IfSome reply (λ r. unique_of r ≡ number_of (decoded payload)))
+    (built : is_unbuilt 0 payload ≡ false)
+    (did : Did (IsForFuse (aim_of s (decoded payload))) (most_for_fuse (aim_of s (decoded payload))) a b (λ t. FuseRow (aim_of s (decoded payload)) t (answer_by reply bytes) c)) where
+  -- the frame is a message
+  request_is : request_of (framed 0 payload) ≡ message_of (decoded payload)
+  request_is = rw built refl
+
+  pub message_step : (g : Setting) (t : Fuse) (entropy : List ℕ) → Next s (decoded payload) (answer_by reply bytes) t
+      → Stepped g (record { fuse = s; entropy = entropy }) (record { fuse = t; entropy = entropy }) a b (framed 0 payload) (sent_if (message_frame reply) bytes) c
+  message_step g t entropy next = stepped g _ _ a b (framed 0 payload) _ _ _ _ _ did (λ call given for. rw request_is for) (rw request_is (omega arith))
+      (λ own failed row. rw request_is (refl, record { answer = answer_by reply bytes; sent_is = message_sent_is (decoded payload) reply bytes number; row = row; slice = of_none (aim_of s (decoded payload)) (answer_by reply bytes); next = next }))
 
   read_defined : (f : MeasuredFile) (offset size : ℕ) (t : Trace) (content : List ℕ) (answer : Answer) (why : Option Cause) (unique : ℕ) → ReadRow f offset size t answer why
       → (answer ≡ bytes_out (take size (drop offset content))) ⊎ (answer ≡ refused Enomem) → IsReadDefined unique offset size content t.scarce (message_sent unique answer) why
@@ -142,8 +148,12 @@ module _ (g : Setting) (s t : State) (a b : Told) (payload : List ℕ) (reply : 
         (w.0, read_defined f offset size (trace_of (heard_of did.own) (failures_of did.own) a b) content (answer_by reply bytes) c (number_of (decoded payload)) row w.1);
   }
 
-  pub message_served : FuseIsRight (aim_of s.fuse (decoded payload)) a b (answer_by reply bytes)
-      → MessageIsServed (aim_of s.fuse (decoded payload)) (number_of (decoded payload)) a b (sent_if (message_frame reply) bytes) c
-  message_served right =
-      subst (λ (z : Sent). MessageIsServed (aim_of s.fuse (decoded payload)) (number_of (decoded payload)) a b z c) (sym (message_sent_is (decoded payload) reply bytes number))
-      (by_aim (aim_of s.fuse (decoded payload)) did.outcome right)
+  served_by : FuseIsRight (aim_of s (decoded payload)) a b (answer_by reply bytes)
+      → MessageIsServed (aim_of s (decoded payload)) (number_of (decoded payload)) a b (sent_if (message_frame reply) bytes) c
+  served_by right =
+      subst (λ (z : Sent). MessageIsServed (aim_of s (decoded payload)) (number_of (decoded payload)) a b z c) (sym (message_sent_is (decoded payload) reply bytes number))
+      (by_aim (aim_of s (decoded payload)) did.outcome right)
+
+  pub message_served : (g : Setting) (entropy : List ℕ) → FuseIsRight (aim_of s (decoded payload)) a b (answer_by reply bytes)
+      → RequestIsServed g (record { fuse = s; entropy = entropy }) (request_of (framed 0 payload)) a b (sent_if (message_frame reply) bytes) c
+  message_served g entropy right = rw request_is (served_by right)

@@ -1,13 +1,12 @@
 -- How a session ends, and what it has done.
-use Rattle.std.specs.Prelude.{Bool, true, ◌≡◌, ◌≢◌, ◌==◌, ◌&&◌, ◌||◌, nat_lt, nat_le, ℕ, ◌^◌, ◌+◌, ◌-◌, ◌<◌, ◌≤◌, List, [], ◌∷◌, ◌++◌, length, take, drop, Option, Some, Result, Ok, Err, ◌⊎◌}
-use Rattle.std.specs.Int.{w32, from_le_bytes}
+use Rattle.std.specs.Prelude.{true, ◌≡◌, ◌≢◌, ℕ, ◌^◌, ◌+◌, ◌-◌, ◌<◌, ◌≤◌, List, [], ◌∷◌, ◌++◌, length, take, Option, Some, Result, Ok, Err, ◌⊎◌}
 use Rattle.std.specs.Io.KnownBytes.{Appends, IsAtEnd}
 use Rattle.host_traits.specs.Streams.{SomePrefix}
 use Rattle.host_traits.specs.Told.{Told, Exchanges, heard_size}
 use Rattle.session_frames.specs.Frames.{Held, Fronts, IsCutOff, BeginsNone, bytes_of}
 use Rattle.session_frames.specs.Session.{Went, WentOver, Came}
 use Rattle.session_frames.specs.Replies.{reply_frame}
-use Rattle.guest_rules.specs.Machine.{Setting, State, Turn}
+use Rattle.guest_rules.specs.Machine.{Setting, State, Turn, is_unbuilt}
 use Rattle.guest_rules.specs.Run.{Runs, Ran, frames_of, out_bytes, log_bytes, log_line}
 use Rattle.guest_cli.specs.declared.session.SessionEnd.{SessionEnd}
 use Rattle.guest_cli.specs.declared.session.SessionEnd.TheVariants.{Read, Write, BadFrame, TooMuch, Unbuilt}
@@ -63,14 +62,6 @@ pub record IsWhole (bytes : List ℕ) : Type 0 where
   pub payload : List ℕ
   pub rest : List ℕ
   pub fronts : Fronts bytes channel payload rest
-
--- the operation that a message names, whatever else is wrong with it
-abbrev pub opcode_in : List ℕ → ℕ
-opcode_in payload = from_le_bytes w32 (take 4 (drop 4 payload))
-
--- what isn't served yet: channels 2 and 3, and of channel 0 the operations 27 to 29 (OPENDIR, READDIR and RELEASEDIR)
-abbrev pub is_unbuilt : ℕ → List ℕ → Bool
-is_unbuilt channel payload = nat_lt 1 channel || ((channel == 0) && (nat_le 27 (opcode_in payload) && nat_le (opcode_in payload) 29))
 
 -- a frame that isn't served yet
 pub record IsUnbuilt (bytes : List ℕ) : Type 0 where

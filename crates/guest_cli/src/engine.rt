@@ -1,9 +1,9 @@
 // The work of one frame.
-ghost use Rattle.std.specs.Prelude.{◌≡◌, ◌≤◌, ◌<◌, ◌+◌, ◌*◌, ℕ, List, [], length, take, drop, slice_get};
+ghost use Rattle.std.specs.Prelude.{◌≡◌, ◌≤◌, ◌<◌, ◌+◌, ◌*◌, ℕ, List, [], false, length, take, drop, slice_get};
 ghost use Rattle.std.specs.Int.{w32, w64, from_le_bytes};
 ghost use Rattle.session_frames.specs.Frames.{IsPayload};
 ghost use Rattle.session_frames.specs.Replies.{sent_if};
-ghost use Rattle.guest_rules.specs.Machine.{AreItems, item_read, request_of};
+ghost use Rattle.guest_rules.specs.Machine.{AreItems, item_read, request_of, is_unbuilt};
 ghost use Rattle.guest_rules.specs.Step.{Stepped};
 ghost use Rattle.guest_rules.specs.Faithful.{RequestIsServed};
 ghost use Rattle.guest_cli.specs.Turns.{framed};
@@ -186,7 +186,8 @@ fn answer_read<H: Host>(engine: &mut Engine, host: &mut H, payload: &[u8]) -> Fr
 
 // A message of FUSE, as one step of the machine.
 fn answer_message<H: Host>(engine: &mut Engine, host: &mut H, message: &[u8]) -> FrameAnswer
-    requires { 40 ≤ length message.now }
+    requires long { 40 ≤ length message.now }
+    requires built { is_unbuilt 0 message.now ≡ false }
     ensures setting { engine.new.setting ≡ engine.old.setting }
     ensures step { Stepped engine.old.setting engine.old.state engine.new.state
         (H.told host.old) (H.told host.new)
@@ -204,7 +205,7 @@ fn answer_message<H: Host>(engine: &mut Engine, host: &mut H, message: &[u8]) ->
     }
 }
 
-/// The work of one frame of channel 0 or 1: the reply, where there is one, and why it is a failure. A message of FUSE is answered
+/// The work of one frame that is served, of channel 0 or 1: the reply, where there is one, and why it is a failure. A message of FUSE is answered
 /// as `fuse_server` has it. A read of a measured item is answered with code 2 where there is no such item, else with 22 where its
 /// size is above 131,072, else with the bytes, or with 5 or 12. Over a host that holds the item as it was measured, or the file of
 /// a READ, a read in which no call fails is answered with the bytes, or want of memory, and so is each read over an honest one.
@@ -214,7 +215,7 @@ pub fn answer_frame<H: Host>(
     channel: u8,
     payload: &[u8],
 ) -> FrameAnswer
-    requires channel { channel < 2 }
+    requires built { is_unbuilt channel payload.now ≡ false }
     requires payload { IsPayload channel (length payload.now) }
     ensures setting { engine.new.setting ≡ engine.old.setting }
     ensures step { Stepped engine.old.setting engine.old.state engine.new.state

@@ -1,16 +1,20 @@
 // Frames, one after another, from a stream that comes in pieces.
-ghost use Rattle.std.specs.Prelude.{◌≡◌, ◌≤◌, ◌<◌, ◌+◌, ◌^◌, ℕ, List, [], length, OnOk, OnErr, ◌⊎◌};
+ghost use Rattle.std.specs.Prelude.{◌≡◌, ◌≤◌, ◌<◌, ◌+◌, ◌^◌, ℕ, List, [], false, length, OnOk, OnErr, ◌⊎◌};
+ghost use Rattle.std.specs.Io.KnownBytes.{Appends};
+ghost use Rattle.host_traits.specs.Streams.{SomePrefix, HasCause};
 ghost use Rattle.host_traits.specs.Told.{Rose};
 ghost use Rattle.session_frames.specs.Frames.{IsPayload, Fronts, IsCutOff};
-ghost use Rattle.guest_rules.specs.Machine.{Turn};
-ghost use Rattle.guest_rules.specs.Run.{Runs};
+ghost use Rattle.session_frames.specs.Replies.{sent_if, reply_frame};
+ghost use Rattle.guest_rules.specs.Machine.{Turn, is_unbuilt};
+ghost use Rattle.guest_rules.specs.Run.{Runs, log_line};
 ghost use Rattle.guest_cli.specs.Turns.{TurnOutcome};
-ghost use Rattle.guest_cli.specs.Session.{HeldOutcome, PieceOutcome, IsSession, is_unbuilt, end_of};
+ghost use Rattle.guest_cli.specs.Session.{HeldOutcome, PieceOutcome, IsSession, end_of};
 
 use crate::engine::{Engine, answer_frame};
 use crate::log::cause_line;
 use host_traits::{Failed, Host, Sink, Source};
-use session_frames::{Next, Splitter, write_frame};
+use session_frames::{Next, ReplyFrame, Splitter, write_frame};
+use verity_path::{Cause, Served};
 
 /// The most bytes that a session reads or hears.
 pub const LIMIT: u64 = 1_073_741_824;
@@ -51,6 +55,41 @@ fn is_unbuilt(channel: u8, payload: &[u8]) -> bool
     channel > 1 || (channel == 0 && (27 <= opcode && opcode <= 29))
 }
 
+// Writes the line of a cause, where there is one.
+fn write_line<L: Sink>(at: u64, cause: &Option<Cause>, log: &mut L) -> Result<(), Failed>
+    ensures ok { OnOk result (Appends (L.holds log.old) (L.holds log.new) (log_line at cause.now)) }
+    ensures err { OnErr result
+        (SomePrefix (L.holds log.old) (L.holds log.new) (log_line at cause.now)) }
+    ensures cause { HasCause (L.faults log.old) (L.faults log.new) result }
+{
+    match cause {
+        Some(cause) => {
+            let line = cause_line(at, cause);
+            log.write_all(line.bytes())
+        }
+        None => Ok(()),
+    }
+}
+
+// Writes the frame of a reply, where there is one.
+fn write_reply<K: Sink>(
+    reply: &Option<ReplyFrame>,
+    served: &Served,
+    out: &mut K,
+) -> Result<(), Failed>
+    ensures ok { OnOk result
+        (Appends (K.holds out.old) (K.holds out.new) (reply_frame (sent_if reply.now served.now))) }
+    ensures err { OnErr result
+        (SomePrefix (K.holds out.old) (K.holds out.new)
+        (reply_frame (sent_if reply.now served.now))) }
+    ensures cause { HasCause (K.faults out.old) (K.faults out.new) result }
+{
+    match reply {
+        Some(reply) => write_frame(reply, served, out),
+        None => Ok(()),
+    }
+}
+
 // Answers one frame: its line of the log first, then its reply.
 fn turn<H: Host, K: Sink, L: Sink>(
     engine: &mut Engine,
@@ -61,7 +100,7 @@ fn turn<H: Host, K: Sink, L: Sink>(
     out: &mut K,
     log: &mut L,
 ) -> Result<(), Failed>
-    requires channel { channel < 2 }
+    requires built { is_unbuilt channel payload.now ≡ false }
     requires payload { IsPayload channel (length payload.now) }
     ensures setting { engine.new.setting ≡ engine.old.setting }
     ensures turn { TurnOutcome engine.old.setting engine.old.state engine.new.state
@@ -74,17 +113,11 @@ fn turn<H: Host, K: Sink, L: Sink>(
         (Rose (K.faults out.old) (K.faults out.new) ⊎ Rose (L.faults log.old) (L.faults log.new)) }
 {
     let answer = answer_frame(engine, host, channel, payload);
-    if let Some(cause) = answer.cause {
-        let line = cause_line(at, &cause);
-        match log.write_all(line.bytes()) {
-            Ok(()) => {}
-            Err(failed) => return Err(failed),
-        }
+    match write_line(at, &answer.cause, log) {
+        Ok(()) => {}
+        Err(failed) => return Err(failed),
     }
-    match answer.reply {
-        Some(reply) => write_frame(&reply, engine.served(), out),
-        None => Ok(()),
-    }
+    write_reply(&answer.reply, engine.served(), out)
 }
 
 // Answers each whole frame at the front.

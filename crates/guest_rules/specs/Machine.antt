@@ -1,5 +1,5 @@
 -- The machine, its requests, and a moment of a run.
-use Rattle.std.specs.Prelude.{◌≡◌, ℕ, ◌*◌, ◌≤◌, List, take, drop, slice_get, Option, Some, None, Result, ◌==◌, if◌then◌else◌}
+use Rattle.std.specs.Prelude.{Bool, ◌≡◌, ◌&&◌, ◌||◌, nat_lt, nat_le, ℕ, ◌*◌, ◌≤◌, List, take, drop, slice_get, Option, Some, None, Result, ◌==◌, if◌then◌else◌}
 use Rattle.std.specs.Int.{w32, w64, from_le_bytes}
 use Rattle.host_traits.specs.Told.{Told, Exchanges, Made}
 use Rattle.session_frames.specs.Frames.{Framed}
@@ -50,9 +50,17 @@ pub data Request : Type 0 where
   read_of : ItemRead → Request
   unbuilt : Request
 
--- the request of a frame, by its channel
+-- the operation that a message names, whatever else is wrong with it
+abbrev pub opcode_in : List ℕ → ℕ
+opcode_in payload = from_le_bytes w32 (take 4 (drop 4 payload))
+
+-- what isn't served yet: channels 2 and 3, and of channel 0 the operations 27 to 29 (OPENDIR, READDIR and RELEASEDIR)
+abbrev pub is_unbuilt : ℕ → List ℕ → Bool
+is_unbuilt channel payload = nat_lt 1 channel || ((channel == 0) && (nat_le 27 (opcode_in payload) && nat_le (opcode_in payload) 29))
+
+-- the request of a frame that is served, by its channel
 abbrev pub request_of : Framed → Request
-request_of f = if f.channel == 0 then message_of (decoded f.payload) else if f.channel == 1 then read_of (item_read f.payload) else unbuilt
+request_of f = if is_unbuilt f.channel f.payload then unbuilt else if f.channel == 0 then message_of (decoded f.payload) else read_of (item_read f.payload)
 
 -- a moment of a run: the machine, all that was heard, and what the host tells
 pub record Moment : Type 0 where

@@ -20,7 +20,9 @@ IsSliceOf content offset size answer = Unit {0}
 -- the same of what a message aims at: a READ alone gives bytes of a file
 abbrev pub IsOfFile : World → Result Aim Errno → Answer → Type 0
 IsOfFile world (Ok (reads f offset size)) answer = IsSliceOf (world.file f.file) offset size answer
-IsOfFile world aim answer = Unit {0}
+IsOfFile world (Ok (says a)) answer = Unit {0}
+IsOfFile world (Ok (makes a)) answer = Unit {0}
+IsOfFile world (Err e) answer = Unit {0}
 
 -- A message is answered as its checks say, or by a read of a file, with the cause of a read that failed; in a world with the
 -- file's content by its bytes. The reply has the message's number, and this is the state after it.

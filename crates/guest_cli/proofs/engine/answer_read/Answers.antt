@@ -38,7 +38,7 @@ returns-clause-step g c =
     let size = c.parse-question.ensures.size in
     let offset = c.parse-question.ensures.offset in
     rw (c.read_answer.ensures, ← c.engine.view_is)
-    (read_step _ _ _ _ c.args.payload.now c.index-it.result.now (omega (arith, item, there)) (rw item at at) (omega (arith, size)) _ c.read_range-done.result (rw (offset, size) at c.read_range-done.ensures.did))
+    (read_step _ _ _ c.args.payload.now c.index-it.result.now (omega (arith, item, there)) (rw item at at) (omega (arith, size)) _ _ c.read_range-done.result (rw (offset, size) at c.read_range-done.ensures.did))
 
 pub returns-then-question-len-clause-served : goal.returns-then-question-len-clause-served
 returns-then-question-len-clause-served g c = rw (c.code.ensures, ← c.engine.view_is) (absent_served _ _ c.args.payload.now _ _ (omega (arith, c.parse-question.ensures.item)))
@@ -55,5 +55,5 @@ returns-clause-served g c =
     let size = c.parse-question.ensures.size in
     let offset = c.parse-question.ensures.offset in
     rw (c.read_answer.ensures, ← c.engine.view_is)
-    (read_served _ _ _ _ c.args.payload.now c.index-it.result.now (omega (arith, item, there)) (rw item at at) (omega (arith, size)) _ c.read_range-done.result (rw (offset, size) at c.read_range-done.ensures.did)
+    (read_served _ _ _ c.args.payload.now c.index-it.result.now (omega (arith, item, there)) (rw item at at) (omega (arith, size)) _ c.read_range-done.result (rw (offset, size) at c.read_range-done.ensures.did)
     (rw (offset, size) at c.read_range-done.ensures.held))

@@ -1,7 +1,7 @@
 use Rattle.std.proofs.Common.{[], ◌∙◌, refl, sym, ap, arith, length}
 use Rattle.session_frames.specs.Frames.{Held}
 use Rattle.session_frames.proofs.Heads.{length_of_held}
-use Rattle.guest_cli.proofs.Sessions.{few_heard, is_early, built, held_start, held_next, held_stop}
+use Rattle.guest_cli.proofs.Sessions.{few_heard, is_early, held_start, held_next, held_stop}
 use Rattle.guest_cli.proofs.session.answer_held.Goals as goal
 
 pub loop-channel-init : goal.loop-channel-init
@@ -44,8 +44,8 @@ returns-then-is_unbuilt-clause-held g c =
 pub is_unbuilt-requires : goal.is_unbuilt-requires
 is_unbuilt-requires g c = let s = c.in-Frame.ensures.1.suits.least in s
 
-pub turn-requires-clause-channel : goal.turn-requires-clause-channel
-turn-requires-clause-channel g c = built c.in-Frame.channel c.in-Frame.payload.now (sym c.is_unbuilt.ensures ∙ c.if-is_unbuilt.false)
+pub turn-requires-clause-built : goal.turn-requires-clause-built
+turn-requires-clause-built g c = sym c.is_unbuilt.ensures ∙ c.if-is_unbuilt.false
 
 pub turn-requires-clause-payload : goal.turn-requires-clause-payload
 turn-requires-clause-payload g c = c.in-Frame.ensures.1.suits
