@@ -184,10 +184,10 @@ module _ (h : Held) (number : ℕ) (digest : Digest) (content salt : List ℕ) (
       let all : take 256 holds.holds.file.descriptor ≡ descriptor_bytes mine = ap (take 256) holds.descriptor ∙ take_all 256 (descriptor_bytes mine) (omega (arith, len)) in
       subst (λ (x : List ℕ). serve h (DescriptorOf number) [] ≡ Some (Bytes x, h)) all (descriptor_serves h number holds.holds.file holds.holds.there)
 
-  opens_file : (bytes : List ℕ) → serve h (DescriptorOf number) [] ≡ Some (Bytes bytes, h) → opened_file number digest bytes ≡ Ok (file_of number mine)
+  opens_file : (bytes : List ℕ) → serve h (DescriptorOf number) [] ≡ Some (Bytes bytes, h) → opened_file number digest bytes ≡ Ok (file_of number digest mine)
   opens_file bytes e =
       let same : descriptor_bytes mine ≡ bytes = bytes_is (descriptor_bytes mine) bytes (said_is (Bytes (descriptor_bytes mine)) (Bytes bytes) h (sym serves ∙ e)) in
-      subst (λ (x : List ℕ). opened_file number digest x ≡ Ok (file_of number mine)) same (open_whole number digest mine sound holds.few (sym holds.measured.digest_is)) where
+      subst (λ (x : List ℕ). opened_file number digest x ≡ Ok (file_of number digest mine)) same (open_whole number digest mine sound holds.few (sym holds.measured.digest_is)) where
         said_is : (a b : Said) (k : Held) → ◌≡◌ {A = Option (Said × Held)} (Some (a, k)) (Some (b, k)) → a ≡ b
         said_is a b k both = (pair_is (a, k) (b, k) both).0
 
@@ -195,7 +195,7 @@ module _ (h : Held) (number : ℕ) (digest : Digest) (content salt : List ℕ) (
     not_opened_file : (why : RoFault) (bytes : List ℕ) → t.own ≡ (DescriptorOf number, Bytes bytes) ∷ [] → opened_file number digest bytes ≡ Err why → ⊥
     not_opened_file why bytes own is =
         let one = subst (λ (x : Exchanges). (call : Call) (said : Said) → IsIn call said x → serve h call [] ≡ Some (said, h)) own heard in
-        not_file (file_of number mine) why (sym (opens_file bytes (one (DescriptorOf number) (Bytes bytes) (inl refl))) ∙ is)
+        not_file (file_of number digest mine) why (sym (opens_file bytes (one (DescriptorOf number) (Bytes bytes) (inl refl))) ∙ is)
 
     pub file_passes : (why : BootCause) → FileFails number digest why t → why ≡ Memory
     file_passes Memory e = refl

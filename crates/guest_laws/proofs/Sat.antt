@@ -200,4 +200,4 @@ boots_served files plan store entropy fault world u fits =
     let told = f.talked.held in
     let calls = lines_call k.lines f.own f.calls in
     let boot = boot_held true f.own h told.0 told.2 calls in
-    f.other (fault_passes k.lines k.numbers world h fits (trace_of (heard_of f.own) (failures_of f.own) start f.finish) boot.1 (λ call said one last serves. not_failed start f.finish f.own h call said f.talked refl (inr refl) calls one last serves) fault f.is)
+    f.other (fault_passes k.lines k.numbers u.bytes world h fits (trace_of (heard_of f.own) (failures_of f.own) start f.finish) boot.1 (λ call said one last serves. not_failed start f.finish f.own h call said f.talked refl (inr refl) calls one last serves) fault f.is)
