@@ -123,11 +123,16 @@ pub fn boot<H: Host>(
         Ok(rooms) => rooms,
         Err(_) => return Err(no_memory()),
     };
-    let Opened { items, files } =
-        match open_lines(alloc, host, &plan.lines, &plan.numbers, &mut buf.raw) {
-            Ok(opened) => opened,
-            Err(fault) => return Err(fault),
-        };
+    let Opened { items, files } = match open_lines(
+        alloc,
+        host,
+        &plan.lines,
+        &plan.numbers,
+        &mut buf.raw,
+    ) {
+        Ok(opened) => opened,
+        Err(fault) => return Err(fault),
+    };
     let server = match plant_lines(alloc, plan, &files) {
         Ok(server) => server,
         Err(_) => return Err(no_memory()),

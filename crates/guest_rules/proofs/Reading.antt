@@ -83,7 +83,7 @@ module _ (h : Held) (layout : Layout) (m : Measure) (size offset len : ℕ) (con
         let index = ancestor f.block level in
         let answer = held.each s.call (Bytes s.bytes) s.own in
         let page = page_held h m content tree limit layout level index holds f.path.level_in (ancestor-page m.blocks f.block level (index_in s.call f)) answer.0 (Bytes s.bytes)
-            (subst (λ (c : Call). serve h c answer.0 ≡ Some (Bytes s.bytes, h)) f.path.call_is answer.1) in
+        (subst (λ (c : Call). serve h c answer.0 ≡ Some (Bytes s.bytes, h)) f.path.call_is answer.1) in
         let bytes : page.bytes ≡ s.bytes = bytes_is page.bytes s.bytes (sym page.said_is) in
         let asks : asked ≡ asked_for layout m.blocks level index =
         same_size _ _ (sym s.asks ∙ ap kind_of f.path.call_is ∙ kind_asked layout m.blocks level index) in

@@ -91,14 +91,14 @@ defined_over g world old turn new h r it content step request at item is w truly
     let c = each_heard (IsFor g old.state (request_of turn.frame)) turn.own step.calls call said i in
     (calls_of g old.state _ r it call c.0 request at c.1).0 in
     let nothing = not_blamed h it.layout it.measure (size_of it) r.offset r.size content tree item.most (inside_item it) holds (trace old turn new)
-        (item_apart g old.state world (heard_of turn.own) r.item it content at is own) truly for none in
+    (item_apart g old.state world (heard_of turn.own) r.item it content at is own) truly for none in
     defined g old.state world (trace old turn new) h r it content at item is own for nothing turn.sent turn.cause (row_of g world (trace old turn new) _ old.state new.state turn.sent turn.cause r request step.row)
 
 pub all_served : ReadsAreServed
 all_served g world old turn new h r it content step request at item is w told holds calm =
     let tree = measured_tree it.measure content (w.items r.item it content at is) in
     let each : Each (reading (IsForItem it r)) turn.own = each_so (IsFor g old.state (request_of turn.frame)) (reading (IsForItem it r)) turn.own
-        (λ call given p. calls_of g old.state _ r it call given request at p) step.calls in
+    (λ call given p. calls_of g old.state _ r it call given request at p) step.calls in
     let none = calm_by h it.layout it.measure (size_of it) r.offset r.size content tree item.most (inside_item it) holds old.told new.told turn.own step.talked told each calm in
     let a = after h it.layout it.measure (size_of it) r.offset r.size content tree item.most (inside_item it) holds old.told new.told turn.own step.talked told each in (
       defined_over g world old turn new h r it content step request at item is w a.3 holds none,
@@ -142,7 +142,7 @@ files_served g world old turn new h m n f offset size c step request aim there i
     let read = readable old.state old.heard opened n f there in
     let own = known_last g old.state world old.heard (heard_of turn.own) (subst (λ (x : Exchanges). Known g old.state world x) step.heard known) in
     let each : Each (reading (IsFileRead f offset size)) turn.own = each_so (IsFor g old.state (request_of turn.frame)) (reading (IsFileRead f offset size)) turn.own
-        (λ call given p. file_calls_of g old.state _ m f offset size call given request aim p) step.calls in
+    (λ call given p. file_calls_of g old.state _ m f offset size call given request aim p) step.calls in
     let for : (call : Call) (said : Said) → IsIn call said (heard_of turn.own) → IsFileRead f offset size call =
     λ call said i. (each_heard (reading (IsFileRead f offset size)) turn.own each call said i).1.0 in
     let inside = inside_file f read.blocks in
@@ -154,6 +154,6 @@ files_served g world old turn new h m n f offset size c step request aim there i
     let row = message_row g world (trace old turn new) _ old.state new.state turn.sent turn.cause m request step.row in
     let answer = read_row m old.state (trace old turn new) row.answer turn.cause f offset size aim row.row in (
       subst (λ (z : Sent). IsReadDefined (number_of m) offset size c.content new.told.scarce z turn.cause) (sym row.sent_is)
-      (file_defined f offset size (trace old turn new) c.content tree content_of.size apart nothing (number_of m) row.answer turn.cause answer),
+          (file_defined f offset size (trace old turn new) c.content tree content_of.size apart nothing (number_of m) row.answer turn.cause answer),
       stays h (layout_of f) f.measure f.size offset size c.content tree limit inside holds old.told new.told turn.own step.talked told each,
     )

@@ -115,6 +115,7 @@ pub file_apart : (g : Setting) (s : State) (world : World) (heard : Exchanges) (
 file_apart g s world heard n f c there is w x y hx hy = w.no_clash x y (hashed x hx) (hashed y hy) where
   salt_is : f.measure.salt ≡ c.salt
   salt_is = (w.files n f c there is).salt_is
+
   hashed : (x : List ℕ) → IsHashed heard c.content f.measure.salt x → IsRunHashed g s world heard x
   hashed x (inl seen) = file_hashed g s world heard n f c there is x (inl seen)
   hashed x (inr input) = file_hashed g s world heard n f c there is x (inr (inr (inl (rw salt_is at input))))
@@ -213,13 +214,16 @@ module _ (g : Setting) (world : World) where
 
     row_in : (t : Trace) (request : Request) (new : State) (sent : Sent) (cause : Option Cause) → t.heard ≡ t.own → Known g s world t.heard
         → Row g nowhere t request s new sent cause → Row g world t request s new sent cause
-    row_in t (message_of m) new sent cause same w row = (row.0, record {
-      answer = row.1.answer;
-      sent_is = row.1.sent_is;
-      row = row.1.row;
-      slice = aim_in t (aim_of s.fuse m) row.1.answer cause same (λ f offset size is. aim_file s.fuse m f offset size is) w row.1.row;
-      next = row.1.next;
-    })
+    row_in t (message_of m) new sent cause same w row = (
+      row.0,
+      record {
+        answer = row.1.answer;
+        sent_is = row.1.sent_is;
+        row = row.1.row;
+        slice = aim_in t (aim_of s.fuse m) row.1.answer cause same (λ f offset size is. aim_file s.fuse m f offset size is) w row.1.row;
+        next = row.1.next;
+      },
+    )
     row_in t (read_of r) new sent cause same w row = (row.0, item_in t r sent cause w.items (known_item_apart t w) row.1)
     row_in t unbuilt new sent cause same w row = absurd row
 

@@ -49,7 +49,7 @@ IsFileHashed s world heard x =
     ((n : ℕ) × (f : MeasuredFile) × IsFile s n f × IsSeen heard f.measure.salt x)
     ⊎ IsHeardDescriptor heard x
     ⊎ ((n : ℕ) × (f : MeasuredFile) × (c : Salted) × IsFile s n f × (world.file f.file ≡ Some c)
-      × (IsInput c.content c.salt x ⊎ (x ≡ descriptor_bytes (descriptor_of c.content c.salt))))
+    × (IsInput c.content c.salt x ⊎ (x ≡ descriptor_bytes (descriptor_of c.content c.salt))))
 
 -- what is hashed in a run
 abbrev pub IsRunHashed : Setting → State → World → Exchanges → List ℕ → Type 0

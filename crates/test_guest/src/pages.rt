@@ -1,6 +1,6 @@
 // A page that is checked by a digest which is kept.
-use mg_base::{Page, Salt, pad_into};
 use host_traits::Raw;
+use mg_base::{Page, Salt, pad_into};
 use sha_tree::hash_page;
 use std::test::Fail;
 use verity_path::{Anchor, Served, check};
