@@ -9,9 +9,9 @@ pub ok_is : {A : Type 0} (x y : A) → let r : Result A PlanKind = Ok x in r ≡
 ok_is x y e = cc
 
 -- what holds where a field is this word, and where it is another
-pub by_word : {A : Type 0} {P : Type 0} (a b : List ℕ) (yes no z : Result A PlanKind) → (a ≡ b → yes ≡ z → P) → (no ≡ z → P) → cond (bytes_eq a b) yes no ≡ z → P
-by_word a b yes no z this other e =
-    elim (chosen (bytes_eq a b) yes no z e) [
+pub by_word : {A : Type 0} {P : Type 0} (a b : List ℕ) (then_so else_so z : Result A PlanKind) → (a ≡ b → then_so ≡ z → P) → (else_so ≡ z → P) → cond (bytes_eq a b) then_so else_so ≡ z → P
+by_word a b then_so else_so z this other e =
+    elim (chosen (bytes_eq a b) then_so else_so z e) [
       | inl h ↦ this (text_is a b h.0) h.1
       | inr h ↦ other h.1
     ]
