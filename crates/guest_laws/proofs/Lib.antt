@@ -11,3 +11,5 @@ pub mod Passes
 pub mod Boots
 pub mod Sat
 mod Example
+pub mod Causes
+pub mod Lies

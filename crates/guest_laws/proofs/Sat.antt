@@ -2,6 +2,7 @@
 use Rattle.std.proofs.Common.{◌≡◌, ◌+◌, ◌∙◌, ℕ, zero, suc, Bool, true, false, cond, List, [], ◌∷◌, ◌++◌, filter, length, ◌<◌, ◌≤◌, Option, Some, None, Result, Ok, Err, refl, ap, sym, subst, inl, inr, arith}
 use Rattle.std.specs.Prelude.{slice_get}
 use Rattle.mg_base.specs.declared.errno.Errno.{Errno}
+use Rattle.mg_base.specs.declared.values.Digest.{Digest}
 use Rattle.std.proofs.lemmas.List.{length-append}
 use Rattle.host_traits.specs.declared.calls.Call.{Call}
 use Rattle.host_traits.specs.declared.calls.TapeItem.{TapeItem}
@@ -122,8 +123,8 @@ some_is : (a b : List ℕ) → Some a ≡ Some b → a ≡ b
 some_is a b e = cc
 
 -- a file that is held as its line needs it has the opened file's content
-content_held : (h : Held) (f : MeasuredFile) (c : Salted) → IsContentOf f c.content c.salt → HoldsReadOnly h f.file f.digest c.content c.salt → HoldsContent h f c.content
-content_held h f c is r =
+content_held : (h : Held) (f : MeasuredFile) (digest : Digest) (c : Salted) → IsContentOf f c.content c.salt → HoldsReadOnly h f.file digest c.content c.salt → HoldsContent h f c.content
+content_held h f digest c is r =
     let holds = r.holds in
     record {
       file = holds.file;
@@ -154,11 +155,14 @@ module _ (g : Setting) (world : World) (lines : List PlanLine) (h : Held) (kept 
             let served = (all_served g world old turn mid h r d.it d.content step request d.at d.item d.content_is here told d.holds (inr honest)).0 in
             let same : d.content ≡ content = some_is d.content content (sym d.content_is ∙ is) in
             subst (λ (z : List ℕ). IsDefined r z true turn.sent turn.cause) same (subst (λ (b : Bool). IsDefined r d.content b turn.sent turn.cause) wants served),
-        λ m f offset size c request aim is holds.
+        λ m f offset size k name file digest request aim at same_file fits.
+            let c : Salted = fits.known in
+            let is : world.file f.file ≡ Some c = ap world.file same_file ∙ fits.content_is in
+            let holds : HoldsReadOnly h f.file digest c.content c.salt = subst (λ (n : ℕ). HoldsReadOnly h n digest c.content c.salt) (sym same_file) fits.holds in
             let there = aim_file old.state.fuse m f offset size aim in
             let known = known_by g old.state world old.heard mid.heard (heard_of turn.own) step.heard opened here in
             let served = (files_served g world old turn mid h m there.0 f offset size c step request aim there.1 is opened here told
-            (content_held h f c (known.files there.0 f c there.1 is) holds) (inr honest)).0 in
+            (content_held h f digest c (known.files there.0 f c there.1 is) holds) (inr honest)).0 in
             subst (λ (b : Bool). IsReadDefined (number_of m) offset size c.content b turn.sent turn.cause) wants served,
         run_served turns mid new run.3 (step_keeps g world old turn mid h step told) (step.talked.honest ∙ honest)
             (opened_at old.state mid.state old.heard mid.heard (heard_of turn.own) same step.heard opened) (world_at g old.state mid.state world new.heard same w) wants,

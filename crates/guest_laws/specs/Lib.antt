@@ -1,3 +1,4 @@
 pub mod Fitting
 pub mod Sessions
 pub mod Passing
+pub mod Lies

@@ -1,5 +1,7 @@
 -- What a boot and a session over a host in memory say, where it holds what the plan's lines need.
-use Rattle.std.specs.Prelude.{true, ◌≡◌, ◌++◌, ℕ, List, [], ◌∷◌, Option, Some, Result, Ok}
+use Rattle.std.specs.Prelude.{true, ◌≡◌, ◌++◌, ℕ, List, [], ◌∷◌, slice_get, Option, Some, None, Result, Ok}
+use Rattle.std.specs.List.{AllByRecursion}
+use Rattle.mg_base.specs.declared.values.Digest.{Digest}
 use Rattle.host_traits.specs.Folders.{Files}
 use Rattle.host_traits.specs.Held.{Held}
 use Rattle.host_traits.specs.Told.{heard_of}
@@ -7,8 +9,9 @@ use Rattle.ro_file.specs.Files.{MeasuredFile}
 use Rattle.fuse_codec.specs.Message.{Message, Bad}
 use Rattle.fuse_server.specs.Aims.{reads, aim_of, number_of}
 use Rattle.guest_plan.specs.declared.plan.PlanLine.{PlanLine}
+use Rattle.guest_plan.specs.declared.plan.PlanLine.TheVariants as line
 use Rattle.guest_boot.specs.declared.faults.BootFault.{BootFault}
-use Rattle.guest_rules.specs.Machine.{Setting, State, World, Salted, Moment, moment, Turn, ItemRead, message_of, request_of, read_of}
+use Rattle.guest_rules.specs.Machine.{Setting, State, World, Moment, moment, Turn, ItemRead, message_of, request_of, read_of}
 use Rattle.guest_rules.specs.Step.{Step}
 use Rattle.guest_rules.specs.Run.{IsEarly, IsWorld, calls_of}
 use Rattle.guest_rules.specs.Faithful.{IsDefined, IsReadDefined}
@@ -16,7 +19,7 @@ use Rattle.guest_cli.specs.declared.session.SessionEnd.{SessionEnd}
 use Rattle.guest_cli.specs.Booted.{setting_of, first_state}
 use Rattle.guest_cli.specs.Session.{Streams}
 use Rattle.guest_cli.specs.Serve.{Recorded, SatOver, UnbootedOver}
-use Rattle.guest_laws.specs.Fitting.{Fits, FitsItem, HoldsReadOnly, item_line}
+use Rattle.guest_laws.specs.Fitting.{Fits, FitsItem, FitsFile, item_line}
 
 -- a turn that reads an item which is held as its line needs it, has its defined reply
 abbrev pub IsItemServed : List PlanLine → World → Held → Turn → Type 0
@@ -24,19 +27,18 @@ IsItemServed lines world h turn = (r : ItemRead) (l : PlanLine) (content : List 
     → request_of turn.frame ≡ read_of r → item_line lines r.item ≡ Some l → FitsItem h (world.item r.item) l → world.item r.item ≡ Some content
     → IsDefined r content true turn.sent turn.cause
 
--- a turn with a READ that its checks let through, of a file which is held with its content and tree under its digest, has its
--- defined reply
-abbrev pub IsFileServed : World → Held → Moment → Turn → Type 0
-IsFileServed world h old turn = (m : Result Message Bad) (f : MeasuredFile) (offset size : ℕ) (c : Salted)
+-- a turn with a READ that its checks let through, of a file which is held as its line needs it, has its defined reply
+abbrev pub IsFileServed : List PlanLine → World → Held → Moment → Turn → Type 0
+IsFileServed lines world h old turn = (m : Result Message Bad) (f : MeasuredFile) (offset size : ℕ) (k : ℕ) (name : List ℕ) (file : ℕ) (digest : Digest)
     → request_of turn.frame ≡ message_of m → aim_of old.state.fuse m ≡ Ok (reads f offset size)
-    → world.file f.file ≡ Some c → HoldsReadOnly h f.file f.digest c.content c.salt
-    → IsReadDefined (number_of m) offset size c.content true turn.sent turn.cause
+    → slice_get lines k ≡ Some (line.File name file digest) → f.file ≡ file → (fits : FitsFile h (world.file file) file digest)
+    → IsReadDefined (number_of m) offset size fits.known.content true turn.sent turn.cause
 
 -- a run of which each step is such, with its reads served
 abbrev pub RunServed : List PlanLine → Held → Setting → World → Moment → List Turn → Moment → Type 0
 RunServed lines h g world old [] new = old ≡ new
 RunServed lines h g world old (turn ∷ turns) new = (mid : Moment) × IsEarly old.told.heard × Step g world old turn mid
-    × IsItemServed lines world h turn × IsFileServed world h old turn × RunServed lines h g world mid turns new
+    × IsItemServed lines world h turn × IsFileServed lines world h old turn × RunServed lines h g world mid turns new
 
 -- Over the host that a store list makes, where it holds what each line of the plan needs, boot doesn't end with a fault of a line:
 -- status 8 doesn't come.
@@ -54,5 +56,15 @@ SessionsAreServed = (files : Option Files) (plan store entropy : List ℕ) (old 
     → (r : Recorded (setting_of s.items) (first_state s.made.planned.plan.lines s.opened s.bytes) s.booted s.mid s.calls s.records s.finish turns)
     → IsWorld (setting_of s.items) (first_state s.made.planned.plan.lines s.opened s.bytes) world (heard_of s.booted ++ heard_of (calls_of turns))
     → RunServed s.made.planned.plan.lines s.made.stock.held (setting_of s.items) world
-    (moment (first_state s.made.planned.plan.lines s.opened s.bytes) s.mid (heard_of s.booted)) turns
-    (moment r.state s.finish (heard_of s.booted ++ heard_of (calls_of turns)))
+        (moment (first_state s.made.planned.plan.lines s.opened s.bytes) s.mid (heard_of s.booted)) turns
+        (moment r.state s.finish (heard_of s.booted ++ heard_of (calls_of turns)))
+
+-- Where the host holds at first what each line of the plan needs, no frame of such a session has a cause: an honest host causes no
+-- failure, and no line of the log names one.
+abbrev pub HonestHostsCauseNone : Type 0
+HonestHostsCauseNone = (files : Option Files) (plan store entropy : List ℕ) (old new : Streams) (ended : Result (Unit {0}) SessionEnd)
+    (s : SatOver files plan store entropy old new ended) (turns : List Turn) (world : World)
+    → Recorded (setting_of s.items) (first_state s.made.planned.plan.lines s.opened s.bytes) s.booted s.mid s.calls s.records s.finish turns
+    → IsWorld (setting_of s.items) (first_state s.made.planned.plan.lines s.opened s.bytes) world (heard_of s.booted ++ heard_of (calls_of turns))
+    → Fits s.made.planned.plan.lines world s.made.stock.held
+    → AllByRecursion (λ t. t.cause ≡ None) turns

@@ -1,7 +1,8 @@
 // Laws of a boot and the reads behind it.
 ghost use Rattle.guest_laws.specs.Fitting.{ApkReadsAreServed};
 ghost use Rattle.guest_laws.specs.Passing.{BootsPass};
-ghost use Rattle.guest_laws.specs.Sessions.{BootsAreServed, SessionsAreServed};
+ghost use Rattle.guest_laws.specs.Lies.{ItemMismatchesLie, ReadMismatchesLie};
+ghost use Rattle.guest_laws.specs.Sessions.{BootsAreServed, SessionsAreServed, HonestHostsCauseNone};
 
 /// Over a host that holds what each line of the plan needs, and is honest or of whose calls none failed, boot opens all lines, or
 /// there was no memory; and what is held stays. Its contract is the law; it does nothing.
@@ -27,4 +28,18 @@ pub fn boots_are_served()
 /// it does nothing.
 pub fn sessions_are_served()
     ensures { SessionsAreServed }
+{}
+
+/// A session of `serve` over the host that a store list makes, where it holds what each line of the plan needs, in a world that
+/// meets the premises: no frame has a cause. Its contract is the law; it does nothing.
+pub fn honest_hosts_cause_none()
+    ensures { HonestHostsCauseNone }
+{}
+
+/// In a world that meets the premises, a mismatch that a read is answered with names an answer to the read's own calls, its last,
+/// that isn't the content's page: of a read of an item, and of a READ of a read-only file. Its contract is the law; it does
+/// nothing.
+pub fn mismatches_lie()
+    ensures items { ItemMismatchesLie }
+    ensures files { ReadMismatchesLie }
 {}

@@ -7,4 +7,7 @@
 
 pub mod laws;
 
-pub use crate::laws::{apk_reads_are_served, boots_are_served, boots_pass, sessions_are_served};
+pub use crate::laws::{
+    apk_reads_are_served, boots_are_served, boots_pass, honest_hosts_cause_none, mismatches_lie,
+    sessions_are_served,
+};
