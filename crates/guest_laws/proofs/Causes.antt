@@ -158,5 +158,5 @@ causes_none files plan store entropy old new ended s turns world r w fits =
     let opens = s.boots.opens in
     let made : Booted = record { tables = opens.tables; items = s.items; files = s.opened } in
     run_none known.plan.lines s.made.stock.held world (heard_of s.booted) made opens.boots
-        (λ n f at. files_opened known.text known.plan (heard_of s.booted) made grammar opens.boots n f at) fits
-        (setting_of s.items) turns _ _ refl refl (sessions_served files plan store entropy old new ended s turns world r w)
+    (λ n f at. files_opened known.text known.plan (heard_of s.booted) made grammar opens.boots n f at) fits
+    (setting_of s.items) turns _ _ refl refl (sessions_served files plan store entropy old new ended s turns world r w)

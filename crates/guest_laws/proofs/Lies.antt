@@ -61,7 +61,7 @@ items_lie g world old turn new r it content x step request at item is w cause =
     let row = subst (λ (q : Request). Row g world (trace old turn new) q old.state new.state turn.sent turn.cause) request step.row in
     let found = item_mismatch g.items world (trace old turn new) r it turn.sent turn.cause x at row.1 cause in
     lie it.layout it.measure content (trace old turn new) x (measured_tree it.measure content (w.items r.item it content at is))
-        (item_apart g old.state world (heard_of turn.own) r.item it content at is own) found
+    (item_apart g old.state world (heard_of turn.own) r.item it content at is own) found
 
 -- the mismatch that a READ is answered with
 read_mismatch : (f : MeasuredFile) (offset size : ℕ) (t : Trace) (answer : Answer) (cause : Option Cause) (x : Mismatch) → ReadRow f offset size t answer cause → cause ≡ Some (OfMismatch x)
@@ -78,4 +78,4 @@ reads_lie g world old turn new m n f offset size c x step request aim there is o
     let read = subst (λ (a : Result Aim Errno). FuseRow a (trace old turn new) row.1.answer turn.cause) aim row.1.row in
     let found = read_mismatch f offset size (trace old turn new) row.1.answer turn.cause x read cause in
     lie (layout_of f) f.measure c.content (trace old turn new) x (known.files n f c there is).tree
-        (file_apart g old.state world (heard_of turn.own) n f c there is own) found
+    (file_apart g old.state world (heard_of turn.own) n f c there is own) found

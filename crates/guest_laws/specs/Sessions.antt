@@ -56,8 +56,8 @@ SessionsAreServed = (files : Option Files) (plan store entropy : List ℕ) (old 
     → (r : Recorded (setting_of s.items) (first_state s.made.planned.plan.lines s.opened s.bytes) s.booted s.mid s.calls s.records s.finish turns)
     → IsWorld (setting_of s.items) (first_state s.made.planned.plan.lines s.opened s.bytes) world (heard_of s.booted ++ heard_of (calls_of turns))
     → RunServed s.made.planned.plan.lines s.made.stock.held (setting_of s.items) world
-        (moment (first_state s.made.planned.plan.lines s.opened s.bytes) s.mid (heard_of s.booted)) turns
-        (moment r.state s.finish (heard_of s.booted ++ heard_of (calls_of turns)))
+    (moment (first_state s.made.planned.plan.lines s.opened s.bytes) s.mid (heard_of s.booted)) turns
+    (moment r.state s.finish (heard_of s.booted ++ heard_of (calls_of turns)))
 
 -- Where the host holds at first what each line of the plan needs, no frame of such a session has a cause: an honest host causes no
 -- failure, and no line of the log names one.
