@@ -1,8 +1,7 @@
 // The two calls of the programs.
 ghost use Rattle.std.specs.Prelude.{◌≡◌, ◌≤◌, ◌⊎◌, length, MatchResult};
 ghost use Rattle.std.specs.Io.KnownBytes.{Appends};
-ghost use Rattle.host_traits.specs.Told.{Rose};
-ghost use Rattle.frame_text.specs.Programs.{Dumps, Makes, bad_frame, bad_line, frame_word, dumpframes_usage, mkframes_usage};
+ghost use Rattle.frame_text.specs.Programs.{Dumps, Makes, WroteSome, bad_frame, bad_line, frame_word, dumpframes_usage, mkframes_usage};
 ghost use Rattle.frame_text.specs.declared.status.Status.TheVariants.{Write};
 
 use crate::dumping::text_of_frames;
@@ -17,7 +16,8 @@ use text_lines::{Line, PlanFault, PlanKind};
 // Writes bytes, and gives this status, or that writing failed.
 fn write<K: Sink>(bytes: &[u8], sink: &mut K, status: Status) -> Status
     ensures { ((result ≡ status) × Appends (K.holds sink.old) (K.holds sink.new) bytes.now)
-        ⊎ ((result ≡ Write) × Rose (K.faults sink.old) (K.faults sink.new)) }
+        ⊎ ((result ≡ Write) × WroteSome (K.holds sink.old) (K.holds sink.new)
+        (K.faults sink.old) (K.faults sink.new) bytes.now) }
 {
     match sink.write_all(bytes) {
         Ok(()) => status,
