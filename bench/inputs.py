@@ -3,7 +3,10 @@ import os
 import random
 import sys
 
-sys.path.insert(0, f"{os.path.dirname(os.path.abspath(__file__))}/../interop")
+TOP = f"{os.path.dirname(os.path.abspath(__file__))}/.."
+
+sys.path[:0] = [f"{TOP}/interop", f"{TOP}/vectors"]
+from fuse_model import File, Session, ask
 from lib.devices import DONE, FAILED, TAPE, Device, number, reply, request, told
 
 
@@ -50,3 +53,17 @@ def records(count):
     """A tape of so many records of all kinds, in turn."""
     kinds = (FAILED, DONE, number(512), told(bytes(range(256))))
     return TAPE + b"".join(kinds[i % 4] for i in range(count))
+
+
+def named(count):
+    """Files without content, each of a name of its own."""
+    return [File(f"file{at:05}", at, b"") for at in range(count)]
+
+
+def session(files, *messages):
+    """A session of these messages, each a word, a node and the fields of its body, after an INIT."""
+    made = Session(*files)
+    made.ask("init", 1, major=7, minor=31)
+    for word, node, fields in messages:
+        made.message(ask(word, node, **fields))
+    return made
