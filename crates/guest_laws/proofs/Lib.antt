@@ -13,3 +13,4 @@ pub mod Sat
 mod Example
 pub mod Causes
 pub mod Lies
+pub mod Naming

@@ -2,3 +2,4 @@ pub mod Fitting
 pub mod Sessions
 pub mod Passing
 pub mod Lies
+pub mod Naming

@@ -1,6 +1,7 @@
 // Laws of a boot and the reads behind it.
 ghost use Rattle.guest_laws.specs.Fitting.{ApkReadsAreServed};
 ghost use Rattle.guest_laws.specs.Passing.{BootsPass};
+ghost use Rattle.guest_laws.specs.Naming.{NamesStay};
 ghost use Rattle.guest_laws.specs.Lies.{ItemMismatchesLie, ReadMismatchesLie};
 ghost use Rattle.guest_laws.specs.Sessions.{BootsAreServed, SessionsAreServed, HonestHostsCauseNone};
 
@@ -42,4 +43,11 @@ pub fn honest_hosts_cause_none()
 pub fn mismatches_lie()
     ensures items { ItemMismatchesLie }
     ensures files { ReadMismatchesLie }
+{}
+
+/// Behind each run from the state after boot, each name of a plan's `file` line leads to its node, a read-only file with the
+/// line's number; no other name is found in the root; and the files are those that boot opened. Its contract is the law; it does
+/// nothing.
+pub fn names_stay()
+    ensures { NamesStay }
 {}

@@ -2,12 +2,13 @@
 //! of whose calls none failed, boot opens all lines, or there was no memory. `boots_are_served` and `sessions_are_served`: over the
 //! host that a store list makes, boot passes where it holds what the plan needs, and each read of an item that it holds has its
 //! defined reply. `apk_reads_are_served`: where each answer for one disk is what the host holds, a read of the device on it has its
-//! defined reply, or a failed call as its cause. There is no code here but the laws, which are functions that do nothing.
+//! defined reply, or a failed call as its cause. `names_stay`: behind each run the plan's names lead to its files. There is no code
+//! here but the laws, which are functions that do nothing.
 #![tactic(auto)]
 
 pub mod laws;
 
 pub use crate::laws::{
     apk_reads_are_served, boots_are_served, boots_pass, honest_hosts_cause_none, mismatches_lie,
-    sessions_are_served,
+    names_stay, sessions_are_served,
 };

@@ -1,0 +1,278 @@
+-- Names of the root lead where they led, and the files stay.
+use Rattle.std.proofs.Common.{◌≡◌, ◌∙◌, ◌+◌, ◌-◌, if◌then◌else◌, ℕ, Bool, true, false, cond, List, [], ◌∷◌, Option, Some, None, Result, Ok, Err, refl, sym, ap, subst, arith}
+use Rattle.std.specs.Prelude.{◌==◌, ◌||◌, is_some, nat_eq, nat_lt}
+use Rattle.std.specs.Option.{option_map}
+use Rattle.std.specs.FinMap as table
+use Rattle.std.proofs.lemmas.Bool.Decides.{nat_tests}
+use Rattle.mg_base.specs.declared.errno.Errno.{Errno}
+use Rattle.mg_base.specs.declared.errno.Errno.TheVariants.{Enoent}
+use Rattle.mg_base.specs.declared.values.Digest.{Digest}
+use Rattle.host_traits.specs.Told.{Told, Exchanges}
+use Rattle.host_traits.specs.Did.{Trace}
+use Rattle.session_frames.specs.Replies.{Sent}
+use Rattle.verity_path.specs.declared.device.Cause.{Cause}
+use Rattle.ro_file.specs.Files.{MeasuredFile}
+use Rattle.authfs_dirs.specs.declared.kind.Kind.{Kind}
+use Rattle.authfs_dirs.specs.declared.kind.Kind.TheVariants.{ReadOnly}
+use Rattle.authfs_dirs.specs.Names.{Entry, Node, NodeMap, Names, node_at, kind_at, changed, settled, lives, is_dir, directory, found, node_named, one_more, with_lookups, with_pins, looked_up, forgotten, pinned, unpinned, cleared, reset_node, IsReset, lookup_check}
+use Rattle.authfs_dirs.specs.Tree.{IsRoot, IsChild}
+use Rattle.authfs_dirs.proofs.TreeLemmas.{get_changed, get_settled, kept}
+use Rattle.authfs_dirs.proofs.TreeLaws.{finds_children}
+use Rattle.fuse_codec.specs.Message.{Asked, init, lookup, forget, batch_forget, interrupt, getattr, setattr, opening, opendir, read, write, flush, fsync, release, releasedir, readdir, create, mkdir, unlink, rmdir, statfs, destroy, Message, Bad}
+use Rattle.fuse_codec.specs.Reply as reply
+use Rattle.fuse_codec.specs.Reply.{Answer}
+use Rattle.fuse_server.specs.State.{State as Fuse}
+use Rattle.fuse_server.specs.Effects.{Next, Becomes, UnlessRefused, IsDestroyed, counted, all_forgotten, with_handle, without_handle, initialised}
+use Rattle.guest_plan.specs.declared.plan.PlanLine.{PlanLine}
+use Rattle.guest_boot.specs.Booting.{Booted, Boots, nothing}
+use Rattle.guest_names.specs.Standing.{file_count, names_at_boot}
+use Rattle.guest_names.specs.Promises.{IsFileLine, IsPlannedName, StandsSound}
+use Rattle.guest_names.proofs.Making.{counted as files_counted}
+use Rattle.guest_names.proofs.Sound.{names_found, no_other, boots_sound}
+use Rattle.guest_rules.specs.Machine.{Setting, State, World, Moment, moment, Turn, Request, message_of, read_of, unbuilt, request_of}
+use Rattle.guest_rules.specs.Step.{Row}
+use Rattle.guest_rules.specs.Run.{Run}
+use Rattle.guest_rules.proofs.Standing.{files_kept}
+use Rattle.guest_cli.specs.Booted.{first_state}
+use Rattle.guest_laws.specs.Naming.{IsAsPlanned, NamesStay}
+
+-- ---- the root and what has a name
+
+-- what a node is and where it stands are the same, and so are its names
+record IsSame (x y : Node) : Type 0 where
+  pub kind : y.kind ≡ x.kind
+  pub parent : y.parent ≡ x.parent
+  pub entries : y.entries ≡ x.entries
+
+-- the root, or a node with a name
+abbrev stands : ℕ → Node → Bool
+stands n x = (n == 1) || is_some x.parent
+
+-- each such node stays
+Keeps : NodeMap → NodeMap → Type 0
+Keeps m k = (n : ℕ) (x : Node) → table.get m n ≡ Some x → stands n x ≡ true → (y : Node) × (table.get k n ≡ Some y) × IsSame x y
+
+same_all : (x : Node) → IsSame x x
+same_all x = record { kind = refl; parent = refl; entries = refl }
+
+keeps_all : (m : NodeMap) → Keeps m m
+unfolding Keeps
+keeps_all m n x at still = (x, at, same_all x)
+
+same_stands : (n : ℕ) (x y : Node) → IsSame x y → stands n x ≡ true → stands n y ≡ true
+same_stands n x y same still = ap (λ (p : Option ℕ). (n == 1) || is_some p) same.parent ∙ still
+
+same_on : (x y z : Node) → IsSame x y → IsSame y z → IsSame x z
+same_on x y z a b = record { kind = b.kind ∙ a.kind; parent = b.parent ∙ a.parent; entries = b.entries ∙ a.entries }
+
+keeps_on : (a b c : NodeMap) → Keeps a b → Keeps b c → Keeps a c
+unfolding Keeps
+keeps_on a b c f g n x at still =
+    let y = f n x at still in
+    let z = g n y.0 y.1 (same_stands n x y.0 y.2 still) in
+    (z.0, z.1, same_on x y.0 z.0 y.2 z.2)
+
+number_is : (n q : ℕ) → nat_eq n q ≡ true → n ≡ q
+number_is n q e = grind (arith, nat_tests)
+
+changed_by : (m : NodeMap) (n q : ℕ) (f : Node → Node) (x : Node) (b : Bool) → ((x : Node) → IsSame x (f x)) → nat_eq n q ≡ b → table.get m q ≡ Some x
+    → (y : Node) × (cond b (option_map f (table.get m n)) (table.get m q) ≡ Some y) × IsSame x y
+changed_by m n q f x true same e at = (f x, ap (option_map f) (subst (λ k. table.get m k ≡ Some x) (sym (number_is n q e)) at), same x)
+changed_by m n q f x false same e at = (x, at, same_all x)
+
+keeps_changed : (m : NodeMap) (n : ℕ) (f : Node → Node) → ((x : Node) → IsSame x (f x)) → Keeps m (changed m n f)
+unfolding Keeps
+keeps_changed m n f same q x at still =
+    let y = changed_by m n q f x (nat_eq n q) same refl at in
+    (y.0, get_changed m n q f ∙ y.1, y.2)
+
+either : (a b c d : Bool) → (a || b) ≡ true → (a || b || c || d) ≡ true
+either true b c d e = refl
+either false true c d e = refl
+either false false c d e = absurd cc
+
+lives_on : (n : ℕ) (x : Node) → stands n x ≡ true → lives n x ≡ true
+lives_on n x still = either (n == 1) (is_some x.parent) (nat_lt 0 x.pins) (nat_lt 0 x.lookups) still
+
+stays_if : (b : Bool) (x : Node) → b ≡ true → (if b then Some x else None) ≡ Some x
+stays_if true x e = refl
+stays_if false x e = absurd cc
+
+settled_by : (m : NodeMap) (n q : ℕ) (x : Node) (b : Bool) → nat_eq n q ≡ b → table.get m q ≡ Some x → stands q x ≡ true → cond b (kept n (table.get m n)) (table.get m q) ≡ Some x
+settled_by m n q x true e at still =
+    let is = number_is n q e in
+    ap (kept n) (subst (λ k. table.get m k ≡ Some x) (sym is) at) ∙ stays_if (lives n x) x (lives_on n x (subst (λ k. stands k x ≡ true) (sym is) still))
+settled_by m n q x false e at still = at
+
+keeps_settled : (m : NodeMap) (n : ℕ) → Keeps m (settled m n)
+unfolding Keeps
+keeps_settled m n q x at still = (x, get_settled m n q ∙ settled_by m n q x (nat_eq n q) refl at still, same_all x)
+
+-- ---- each change of the names
+
+keeps_looked : (names : Names) (n : ℕ) → Keeps names.nodes (looked_up names n).nodes
+unfolding looked_up
+keeps_looked names n = keeps_changed names.nodes n (λ x. with_lookups (one_more x.lookups) x) (λ x. record { kind = refl; parent = refl; entries = refl })
+
+keeps_forgotten : (names : Names) (n count : ℕ) → Keeps names.nodes (forgotten names n count).nodes
+unfolding forgotten
+keeps_forgotten names n count =
+    keeps_on _ _ _ (keeps_changed names.nodes n (λ x. with_lookups (x.lookups - count) x) (λ x. record { kind = refl; parent = refl; entries = refl })) (keeps_settled _ n)
+
+keeps_pinned : (names : Names) (n : ℕ) → Keeps names.nodes (pinned names n).nodes
+unfolding pinned
+keeps_pinned names n = keeps_changed names.nodes n (λ x. with_pins (one_more x.pins) x) (λ x. record { kind = refl; parent = refl; entries = refl })
+
+keeps_unpinned : (names : Names) (n : ℕ) → Keeps names.nodes (unpinned names n).nodes
+unfolding unpinned
+keeps_unpinned names n =
+    keeps_on _ _ _ (keeps_changed names.nodes n (λ x. with_pins (x.pins - 1) x) (λ x. record { kind = refl; parent = refl; entries = refl })) (keeps_settled _ n)
+
+keeps_reset : (old new : Names) → IsReset old new → Keeps old.nodes new.nodes
+unfolding Keeps
+keeps_reset old new reset n x at still = (
+  cleared x,
+  reset.nodes n ∙ ap (λ o. reset_node n o) at ∙ stays_if (lives n (cleared x)) (cleared x) (lives_on n (cleared x) still),
+  record { kind = refl; parent = refl; entries = refl },
+)
+
+keeps_pairs : (names : Names) (pairs : List (ℕ × ℕ)) → Keeps names.nodes (all_forgotten names pairs).nodes
+keeps_pairs names [] = keeps_all names.nodes
+keeps_pairs names (p ∷ pairs) = keeps_on _ _ _ (keeps_forgotten names p.0 p.1) (keeps_pairs (forgotten names p.0 p.1) pairs)
+
+-- ---- each message
+
+abbrev KeepsNames : Fuse → Fuse → Type 0
+KeepsNames s new = Keeps s.names.nodes new.names.nodes
+
+keeps_if : (s t new : Fuse) (b : Bool) → new ≡ (if b then t else s) → KeepsNames s t → KeepsNames s new
+keeps_if s t new true e k = rw e k
+keeps_if s t new false e k = rw e (keeps_all s.names.nodes)
+
+keeps_counted : (s new : Fuse) (r : Result ℕ Errno) → new ≡ counted s r → KeepsNames s new
+keeps_counted s new (Ok node) e = rw e (keeps_looked s.names node)
+keeps_counted s new (Err x) e = rw e (keeps_all s.names.nodes)
+
+module _ (s new : Fuse) where
+  same_state : new ≡ s → KeepsNames s new
+  same_state e = rw e (keeps_all s.names.nodes)
+
+  unless : (E : Type 0) (a : Answer) → UnlessRefused s new E a → (E → KeepsNames s new) → KeepsNames s new
+  unless E (reply.refused e) u f = same_state u
+  unless E reply.silent u f = f u
+  unless E reply.empty u f = f u
+  unless E (reply.entry x) u f = f u
+  unless E (reply.attributes x) u f = f u
+  unless E (reply.opened h) u f = f u
+  unless E (reply.created x h) u f = f u
+  unless E (reply.written n) u f = f u
+  unless E reply.statfs_out u f = f u
+  unless E (reply.inited x) u f = f u
+  unless E (reply.bytes_out bytes) u f = f u
+
+  unchanged : (a : Answer) → UnlessRefused s new (new ≡ s) a → KeepsNames s new
+  unchanged a u = unless (new ≡ s) a u same_state
+
+  becomes : (node : ℕ) (asked : Asked) (a : Answer) → Becomes s node asked a new → KeepsNames s new
+  becomes node (init major minor readahead flags) a u = unless _ a u (λ e. rw e (keeps_all s.names.nodes))
+  becomes node (lookup name) a u = unless _ a u (keeps_counted s new (lookup_check s.names.nodes node name))
+  becomes node (forget n) a u = unless _ a u (λ e. keeps_if s _ new s.ready e (keeps_forgotten s.names node n))
+  becomes node (batch_forget pairs) a u = unless _ a u (λ e. keeps_if s _ new s.ready e (keeps_pairs s.names pairs))
+  becomes node interrupt a u = unchanged a u
+  becomes node getattr a u = unchanged a u
+  becomes node (setattr valid size) a u = unchanged a u
+  becomes node (opening flags) a u = unless _ a u (λ e. rw e (keeps_pinned s.names node))
+  becomes node opendir a u = unchanged a u
+  becomes node (read fh offset size) a u = same_state u
+  becomes node (write fh offset bytes) a u = unchanged a u
+  becomes node (flush fh) a u = unchanged a u
+  becomes node (fsync fh) a u = unchanged a u
+  becomes node (release fh) a u = unless _ a u (λ e. rw e (keeps_unpinned s.names node))
+  becomes node (releasedir fh) a u = unchanged a u
+  becomes node (readdir fh offset size) a u = unchanged a u
+  becomes node (create name) a u = unchanged a u
+  becomes node (mkdir name) a u = unchanged a u
+  becomes node (unlink name) a u = unchanged a u
+  becomes node (rmdir name) a u = unchanged a u
+  becomes node statfs a u = unchanged a u
+  becomes node destroy a u = unless _ a u (λ d. keeps_reset s.names new.names d.names)
+
+  next_keeps : (m : Result Message Bad) (a : Answer) → Next s m a new → KeepsNames s new
+  next_keeps (Ok m) a u = becomes m.node m.asked a u
+  next_keeps (Err bad) a u = same_state u
+
+-- ---- a run
+
+row_keeps : (g : Setting) (world : World) (t : Trace) (request : Request) (old new : State) (sent : Sent) (cause : Option Cause) → Row g world t request old new sent cause
+    → KeepsNames old.fuse new.fuse
+row_keeps g world t (message_of m) old new sent cause row = next_keeps old.fuse new.fuse m row.1.answer row.1.next
+row_keeps g world t (read_of r) old new sent cause row = same_state old.fuse new.fuse (ap (λ (s : State). s.fuse) row.0)
+row_keeps g world t unbuilt old new sent cause row = absurd row
+
+module _ (g : Setting) (world : World) where
+  run_keeps : (old : Moment) (turns : List Turn) (new : Moment) → Run g world old turns new → KeepsNames old.state.fuse new.state.fuse
+  run_keeps old [] new r = same_state old.state.fuse new.state.fuse (ap (λ (m : Moment). m.state.fuse) (sym r))
+  run_keeps old (t ∷ turns) new r =
+      keeps_on _ _ _ (row_keeps g world _ (request_of t.frame) old.state r.0.state t.sent t.cause r.2.row) (run_keeps r.0 turns new r.3)
+
+  run_files : (old : Moment) (turns : List Turn) (new : Moment) → Run g world old turns new → new.state.fuse.files ≡ old.state.fuse.files
+  run_files old [] new r = ap (λ (m : Moment). m.state.fuse.files) (sym r)
+  run_files old (t ∷ turns) new r = run_files r.0 turns new r.3 ∙ files_kept g world _ (request_of t.frame) old.state r.0.state t.sent t.cause r.2.row
+
+-- ---- what is found
+
+looks : (m : NodeMap) (x : Node) (name : List ℕ) → table.get m 1 ≡ Some x → is_dir x.kind ≡ true → lookup_check m 1 name ≡ found (node_named name x.entries) Enoent
+unfolding lookup_check directory
+looks m x name at dir = rw (at, dir) refl
+
+abbrev kind_of : Option Node → Option Kind
+kind_of o = option_map (λ (x : Node). x.kind) o
+
+named_stands : (n : ℕ) (x : Node) (p : ℕ) → x.parent ≡ Some p → stands n x ≡ true
+named_stands n x p within = ap (λ (o : Option ℕ). (n == 1) || is_some o) within ∙ last (n == 1) where
+  last : (b : Bool) → (b || true) ≡ true
+  last true = refl
+  last false = refl
+
+module _ (s new : Fuse) (root : IsRoot (node_at s.names)) (keeps : KeepsNames s new) where
+  -- each name of the root leads where it led
+  name_kept : (name : List ℕ) → lookup_check new.names.nodes 1 name ≡ lookup_check s.names.nodes 1 name
+  unfolding Keeps
+  name_kept name =
+      let y = keeps 1 root.node root.there refl in
+      looks new.names.nodes y.0 name y.1 (ap is_dir y.2.kind ∙ root.dir) ∙ ap (λ (es : List Entry). found (node_named name es) Enoent) y.2.entries
+      ∙ sym (looks s.names.nodes root.node name root.there root.dir)
+
+  -- a node with a name is what it was
+  kind_kept : (n p : ℕ) → IsChild (node_at s.names) n p → kind_at new.names n ≡ kind_at s.names n
+  unfolding Keeps
+  kind_kept n p child =
+      let y = keeps n child.node child.there (named_stands n child.node p child.within) in
+      ap kind_of y.1 ∙ ap (λ (k : Kind). Some k) y.2.kind ∙ sym (ap kind_of child.there)
+
+pub names_stay : NamesStay
+names_stay text plan own booted entropy g world told heard turns new spelled boots run = record {
+  names = λ before name file digest is.
+      let at_first = names_found text plan spelled before name file digest is in
+      let child = finds_children names 1 (file_count before + 2) name sound.sound at_first.0 in
+      (name_kept first now sound.sound.tree.root keeps name ∙ at_first.0, kind_kept first now sound.sound.tree.root keeps (file_count before + 2) 1 child ∙ at_first.1);
+  others = λ name node is. no_other plan.lines name node (sym (name_kept first now sound.sound.tree.root keeps name) ∙ is);
+  files = run_files g world start turns new run;
+} where
+  start : Moment
+  start = moment (first_state plan.lines booted.files entropy) told heard
+
+  first : Fuse
+  first = start.state.fuse
+
+  now : Fuse
+  now = new.state.fuse
+
+  names : Names
+  names = names_at_boot plan.lines
+
+  sound : StandsSound first
+  sound = boots_sound text plan booted.files spelled (files_counted plan.lines own booted boots)
+
+  keeps : KeepsNames first now
+  keeps = run_keeps g world start turns new run

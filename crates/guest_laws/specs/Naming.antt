@@ -1,0 +1,33 @@
+-- What a run leaves of the names and files that a plan gives.
+use Rattle.std.specs.Prelude.{◌≡◌, ◌+◌, ℕ, List, Some, Ok}
+use Rattle.mg_base.specs.declared.values.Digest.{Digest}
+use Rattle.host_traits.specs.Told.{Told, Exchanges}
+use Rattle.ro_file.specs.Files.{MeasuredFile}
+use Rattle.authfs_dirs.specs.declared.kind.Kind.TheVariants.{ReadOnly}
+use Rattle.authfs_dirs.specs.Names.{kind_at, lookup_check}
+use Rattle.fuse_server.specs.State.{State as Fuse}
+use Rattle.guest_plan.specs.declared.plan.PlanLine.{PlanLine}
+use Rattle.guest_plan.specs.Plans.{Known}
+use Rattle.guest_plan.specs.Spelling.{IsPlan}
+use Rattle.guest_boot.specs.Booting.{Booted, Boots, nothing}
+use Rattle.guest_names.specs.Standing.{file_count, files_at_boot}
+use Rattle.guest_names.specs.Promises.{IsFileLine, IsPlannedName}
+use Rattle.guest_rules.specs.Machine.{Setting, World, Moment, moment, Turn}
+use Rattle.guest_rules.specs.Run.{Run}
+use Rattle.guest_cli.specs.Booted.{first_state}
+
+-- In the root the first planned name is that of node 2, the next one of node 3, and so on, each a read-only file with its line's
+-- number; no other name is found; and the files are those that boot opened.
+pub record IsAsPlanned (lines : List PlanLine) (opened : List MeasuredFile) (s : Fuse) : Type 0 where
+  pub names : (before : List PlanLine) (name : List ℕ) (file : ℕ) (digest : Digest) → IsFileLine lines before name file digest
+      → (lookup_check s.names.nodes 1 name ≡ Ok (file_count before + 2)) × (kind_at s.names (file_count before + 2) ≡ Some (ReadOnly file))
+  pub others : (name : List ℕ) (node : ℕ) → lookup_check s.names.nodes 1 name ≡ Ok node → IsPlannedName lines name
+  pub files : s.files ≡ files_at_boot lines opened
+
+-- Law: they are so behind each run from the state after boot, whatever was asked and whatever the host answered.
+abbrev pub NamesStay : Type 0
+NamesStay = (text : List ℕ) (plan : Known) (own : Exchanges) (booted : Booted) (entropy : List ℕ)
+    (g : Setting) (world : World) (told : Told) (heard : Exchanges) (turns : List Turn) (new : Moment)
+    → IsPlan text plan → Boots nothing plan.lines own booted
+    → Run g world (moment (first_state plan.lines booted.files entropy) told heard) turns new
+    → IsAsPlanned plan.lines booted.files new.state.fuse
