@@ -1,12 +1,12 @@
 -- A boot over a host that holds what each line needs.
-use Rattle.std.proofs.Common.{◌≡◌, ℕ, zero, suc, ◌-◌, ◌^◌, ◌<◌, ◌∙◌, Bool, true, false, cond, List, [], ◌∷◌, ◌++◌, filter, length, Option, Some, Result, Ok, Err, refl, ap, sym, subst, inl, inr, arith}
+use Rattle.std.proofs.Common.{◌≡◌, ℕ, ◌∙◌, Bool, true, false, cond, List, [], ◌∷◌, ◌++◌, filter, length, Option, Some, Result, Ok, Err, refl, ap, sym, subst, inl, inr}
 use Rattle.std.specs.Prelude.{slice_get, IfErr}
 use Rattle.host_traits.specs.declared.calls.Call.{Call}
 use Rattle.host_traits.specs.declared.calls.Said.{Said}
 use Rattle.host_traits.specs.Held.{Held, serve}
-use Rattle.host_traits.specs.Told.{Told, Exchanges, Made, HeldAfter, heard_of, failures_of}
+use Rattle.host_traits.specs.Told.{Exchanges, Made, HeldAfter, heard_of, failures_of}
 use Rattle.host_traits.specs.Did.{Trace, trace_of, IsIn, Each, reads}
-use Rattle.host_traits.proofs.Doing.{each_so, in_left, in_right}
+use Rattle.host_traits.proofs.Doing.{each_so, in_right}
 use Rattle.gpt.specs.declared.values.Table.{Table}
 use Rattle.guest_plan.specs.declared.plan.PlanLine.{PlanLine}
 use Rattle.guest_plan.specs.declared.plan.PlanLine.TheVariants as line
@@ -18,7 +18,7 @@ use Rattle.guest_boot.specs.Booting.{Booted, Boots, IsFault, IsForLines, LineFai
 use Rattle.guest_rules.specs.Machine.{World}
 use Rattle.guest_cli.specs.declared.boot.Machine.{Machine}
 use Rattle.guest_cli.specs.Booted.{BootedOutcome}
-use Rattle.guest_laws.specs.Fitting.{AreTrue, Fits, HoldsApk, makes_item, item_line}
+use Rattle.guest_laws.specs.Fitting.{AreTrue, Fits, makes_item, item_line}
 use Rattle.guest_laws.specs.Passing.{BootsPass}
 use Rattle.guest_laws.proofs.Asking.{AreHeld, IsBootCall, boot_held, boot_call, not_failed}
 use Rattle.guest_laws.proofs.Fits.{Knows, true_table, true_left, true_right}

@@ -1,12 +1,10 @@
 -- The calls of a read of a device on a disk.
-use Rattle.std.proofs.Common.{◌≡◌, ℕ, ◌+◌, ◌*◌, ◌/◌, ◌%◌, true, false, List, [], ◌∷◌, Some, refl, sym, subst, inl, inr, ◌∙◌}
+use Rattle.std.proofs.Common.{◌≡◌, ℕ, ◌+◌, ◌*◌, ◌/◌, ◌%◌, true, false, List, [], Some, refl, sym, subst, ◌∙◌}
 use Rattle.std.specs.Prelude.{◌==◌, if◌then◌else◌, slice_get}
 use Rattle.host_traits.specs.declared.calls.Call.{Call}
 use Rattle.host_traits.specs.declared.calls.Call.TheVariants.{BlockRead}
-use Rattle.host_traits.specs.declared.calls.Said.{Said}
-use Rattle.host_traits.specs.Held.{Held, serve}
-use Rattle.host_traits.specs.Told.{Exchanges, heard_of}
-use Rattle.host_traits.specs.Did.{IsIn}
+use Rattle.host_traits.specs.Held.{Held}
+use Rattle.host_traits.specs.Told.{heard_of}
 use Rattle.host_traits.proofs.Doing.{each_heard}
 use Rattle.guest_rules.proofs.Holding.{AreServed}
 use Rattle.sha_tree.specs.Tree.{ancestor}

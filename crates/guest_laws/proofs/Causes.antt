@@ -1,5 +1,5 @@
 -- A session over a host that holds what the plan needs: no frame of it has a cause.
-use Rattle.std.proofs.Common.{if◌then◌else◌, ◌≡◌, ◌+◌, ◌∙◌, ℕ, zero, suc, Bool, true, false, List, [], ◌∷◌, ◌++◌, length, Option, Some, None, Result, Ok, Err, refl, ap, sym, subst, inl, inr, arith}
+use Rattle.std.proofs.Common.{if◌then◌else◌, ◌≡◌, ◌+◌, ◌∙◌, ℕ, zero, suc, Bool, true, false, List, [], ◌∷◌, length, Option, Some, None, Result, Ok, Err, refl, ap, sym, inl, inr, arith}
 use Rattle.std.specs.Prelude.{slice_get, ◌==◌}
 use Rattle.std.specs.List.{AllByRecursion}
 use Rattle.std.proofs.lemmas.Option.{slice_get_within}
@@ -14,7 +14,6 @@ use Rattle.session_frames.specs.Replies.{Sent}
 use Rattle.verity_path.specs.declared.device.Cause.{Cause}
 use Rattle.verity_path.specs.declared.device.Device.{Device}
 use Rattle.ro_file.specs.Files.{MeasuredFile}
-use Rattle.fuse_codec.specs.Message.{Message, Bad}
 use Rattle.fuse_codec.specs.Reply.{Answer}
 use Rattle.fuse_server.specs.State.{Files, file_at}
 use Rattle.fuse_server.specs.Aims.{Aim, says, makes, reads, aim_of, number_of}
@@ -27,7 +26,7 @@ use Rattle.guest_boot.specs.Booting.{Booted, Boots, nothing}
 use Rattle.guest_names.specs.Standing.{digest_in, files_at_boot}
 use Rattle.guest_names.specs.Promises.{IsPlannedFile}
 use Rattle.guest_names.proofs.Making.{files_opened}
-use Rattle.guest_rules.specs.Machine.{Setting, State, World, Salted, Moment, Turn, ItemRead, Request, message_of, read_of, unbuilt, request_of}
+use Rattle.guest_rules.specs.Machine.{Setting, World, Moment, Turn, ItemRead, Request, message_of, read_of, unbuilt, request_of}
 use Rattle.guest_rules.specs.ItemRow.{ItemRow, no_item, too_large, served, blamed, no_memory}
 use Rattle.guest_rules.specs.Step.{Step, Row, trace}
 use Rattle.guest_rules.specs.Faithful.{IsDefined, over_limit, whole, no_room, IsReadDefined, slice, no_memory as short_of_memory}

@@ -1,7 +1,7 @@
 -- A host that a store list makes, and a plan that it fits: a content of two blocks, as a blob and as a file by its digest. Its
 -- two files at the host are the store's by `verity` lines.
-use Rattle.std.proofs.Common.{◌≡◌, ℕ, zero, suc, ◌*◌, ◌<◌, ◌≤◌, true, List, [], ◌∷◌, length, Some, None, refl, subst, sym, arith}
-use Rattle.std.specs.Prelude.{Option, slice_get, replicate, ◌==◌, if◌then◌else◌}
+use Rattle.std.proofs.Common.{◌≡◌, ℕ, zero, suc, ◌<◌, ◌≤◌, true, List, [], ◌∷◌, length, Some, None, refl, subst, sym, arith}
+use Rattle.std.specs.Prelude.{slice_get, replicate, ◌==◌, if◌then◌else◌}
 use Rattle.std.proofs.lemmas.Bool.Decides.{nat_tests}
 use Rattle.std.proofs.lemmas.List.{length-replicate}
 use Rattle.host_traits.specs.Held.{Held, with_file}

@@ -1,6 +1,6 @@
 -- A part of a disk's table lies on the disk.
-use Rattle.std.proofs.Common.{◌≡◌, ℕ, ◌+◌, ◌-◌, ◌≤◌, Bool, true, false, List, [], ◌∷◌, Option, Some, None, Result, Ok, refl, subst, inl, inr, arith}
-use Rattle.std.specs.Prelude.{◌⊎◌, ◌&&◌, if◌then◌else◌}
+use Rattle.std.proofs.Common.{◌≡◌, ℕ, ◌+◌, ◌≤◌, Bool, true, false, List, [], ◌∷◌, Option, Some, None, Result, Ok, refl, subst, inl, inr, arith}
+use Rattle.std.specs.Prelude.{◌&&◌, if◌then◌else◌}
 use Rattle.std.specs.List.{AllByRecursion}
 use Rattle.std.specs.Str.{bytes_eq}
 use Rattle.mg_base.specs.declared.values.Span.{Span}
@@ -11,7 +11,7 @@ use Rattle.gpt.specs.Entries.{is_used}
 use Rattle.gpt.specs.Grammar.{IsWithin, UsedIsWithin, IsCopy, IsGpt}
 use Rattle.gpt.specs.Names.{part, is_called, span_of, name_units, text_units}
 use Rattle.gpt.specs.Rules.{primary, alternate}
-use Rattle.guest_boot.specs.Finding.{parts_of, parts_in}
+use Rattle.guest_boot.specs.Finding.{parts_of}
 
 -- a span ends by this sector
 abbrev EndsBy : ℕ → Span → Type 0

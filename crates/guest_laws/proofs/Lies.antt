@@ -1,5 +1,5 @@
 -- The answer that a mismatch blames isn't the content's page.
-use Rattle.std.proofs.Common.{◌≡◌, ◌++◌, ◌<◌, ℕ, List, sym, subst, ap, ◌∙◌, Option, Some, None, Result, Ok, refl}
+use Rattle.std.proofs.Common.{◌≡◌, ℕ, List, sym, subst, ◌∙◌, Option, Some, Result}
 use Rattle.std.specs.Prelude.{slice_get}
 use Rattle.mg_base.specs.declared.errno.Errno.{Errno}
 use Rattle.host_traits.specs.Told.{Exchanges, heard_of}
@@ -12,18 +12,17 @@ use Rattle.sha_tree.proofs.Sound.{measured_tree}
 use Rattle.verity_path.specs.Pieces.{IsHashed}
 use Rattle.verity_path.specs.Walk.{IsMismatch}
 use Rattle.verity_path.specs.declared.device.Cause.{Cause}
-use Rattle.verity_path.specs.declared.device.Cause.TheVariants.{Mismatch as OfMismatch, Short, Failed}
+use Rattle.verity_path.specs.declared.device.Cause.TheVariants.{Mismatch as OfMismatch}
 use Rattle.verity_path.specs.declared.device.Device.{Device}
 use Rattle.verity_path.specs.declared.states.Mismatch.{Mismatch}
 use Rattle.verity_path.specs.declared.walk.Layout.{Layout}
 use Rattle.verity_path.proofs.Blaming.{mismatch_lies}
 use Rattle.ro_file.specs.Files.{MeasuredFile, layout_of}
 use Rattle.ro_file.proofs.Standing.{some_blocks}
-use Rattle.fuse_codec.specs.Message.{Message, Bad}
 use Rattle.fuse_codec.specs.Reply.{Answer}
-use Rattle.fuse_server.specs.Aims.{Aim, reads, aim_of}
+use Rattle.fuse_server.specs.Aims.{Aim}
 use Rattle.fuse_server.specs.Rows.{FuseRow, ReadRow, read_bytes, read_blamed, read_no_room}
-use Rattle.guest_rules.specs.Machine.{Setting, World, Moment, Turn, ItemRead, Request, read_of, message_of, request_of}
+use Rattle.guest_rules.specs.Machine.{World, ItemRead, Request}
 use Rattle.guest_rules.specs.ItemRow.{ItemRow, no_item, too_large, served, blamed, no_memory}
 use Rattle.guest_rules.specs.Step.{Row, trace}
 use Rattle.guest_rules.specs.Run.{IsWorld}

@@ -6,14 +6,10 @@ use Rattle.std.specs.FinMap as table
 use Rattle.std.proofs.lemmas.Bool.Decides.{nat_tests}
 use Rattle.mg_base.specs.declared.errno.Errno.{Errno}
 use Rattle.mg_base.specs.declared.errno.Errno.TheVariants.{Enoent}
-use Rattle.mg_base.specs.declared.values.Digest.{Digest}
-use Rattle.host_traits.specs.Told.{Told, Exchanges}
 use Rattle.host_traits.specs.Did.{Trace}
 use Rattle.session_frames.specs.Replies.{Sent}
 use Rattle.verity_path.specs.declared.device.Cause.{Cause}
-use Rattle.ro_file.specs.Files.{MeasuredFile}
 use Rattle.authfs_dirs.specs.declared.kind.Kind.{Kind}
-use Rattle.authfs_dirs.specs.declared.kind.Kind.TheVariants.{ReadOnly}
 use Rattle.authfs_dirs.specs.Names.{Entry, Node, NodeMap, Names, node_at, kind_at, changed, settled, lives, is_dir, directory, found, node_named, one_more, with_lookups, with_pins, looked_up, forgotten, pinned, unpinned, cleared, reset_node, IsReset, lookup_check}
 use Rattle.authfs_dirs.specs.Tree.{IsRoot, IsChild}
 use Rattle.authfs_dirs.proofs.TreeLemmas.{get_changed, get_settled, kept}
@@ -22,11 +18,9 @@ use Rattle.fuse_codec.specs.Message.{Asked, init, lookup, forget, batch_forget, 
 use Rattle.fuse_codec.specs.Reply as reply
 use Rattle.fuse_codec.specs.Reply.{Answer}
 use Rattle.fuse_server.specs.State.{State as Fuse}
-use Rattle.fuse_server.specs.Effects.{Next, Becomes, UnlessRefused, IsDestroyed, counted, all_forgotten, with_handle, without_handle, initialised}
-use Rattle.guest_plan.specs.declared.plan.PlanLine.{PlanLine}
-use Rattle.guest_boot.specs.Booting.{Booted, Boots, nothing}
+use Rattle.fuse_server.specs.Effects.{Next, Becomes, UnlessRefused, counted, all_forgotten}
 use Rattle.guest_names.specs.Standing.{file_count, names_at_boot}
-use Rattle.guest_names.specs.Promises.{IsFileLine, IsPlannedName, StandsSound}
+use Rattle.guest_names.specs.Promises.{StandsSound}
 use Rattle.guest_names.proofs.Making.{counted as files_counted}
 use Rattle.guest_names.proofs.Sound.{names_found, no_other, boots_sound}
 use Rattle.guest_rules.specs.Machine.{Setting, State, World, Moment, moment, Turn, Request, message_of, read_of, unbuilt, request_of}
@@ -34,7 +28,7 @@ use Rattle.guest_rules.specs.Step.{Row}
 use Rattle.guest_rules.specs.Run.{Run}
 use Rattle.guest_rules.proofs.Standing.{files_kept}
 use Rattle.guest_cli.specs.Booted.{first_state}
-use Rattle.guest_laws.specs.Naming.{IsAsPlanned, NamesStay}
+use Rattle.guest_laws.specs.Naming.{NamesStay}
 
 -- ---- the root and what has a name
 

@@ -1,7 +1,7 @@
 -- Why no line fails over a host that holds what it needs, where no call that this can serve failed.
-use Rattle.std.proofs.Common.{◌≡◌, ℕ, ◌+◌, ◌-◌, ◌*◌, ◌<◌, ◌≤◌, ◌∙◌, min, List, [], ◌∷◌, ◌++◌, length, take, drop, Option, Some, None, Result, Ok, Err, refl, ap, sym, subst, inl, inr, arith}
+use Rattle.std.proofs.Common.{◌≡◌, ℕ, ◌+◌, ◌-◌, ◌*◌, ◌≤◌, ◌∙◌, min, List, [], ◌∷◌, length, take, drop, Option, Some, Result, Ok, Err, refl, ap, sym, subst, inl, arith}
 use Rattle.std.specs.Prelude.{string_bytes}
-use Rattle.std.proofs.lemmas.List.{length-take, length-drop, take-take, take_all, length-append, length-replicate}
+use Rattle.std.proofs.lemmas.List.{length-take, length-drop, take-take, take_all}
 use Rattle.mg_base.specs.declared.values.Digest.{Digest}
 use Rattle.mg_base.specs.declared.values.Span.{Span}
 use Rattle.host_traits.specs.declared.calls.Call.{Call}
@@ -12,12 +12,11 @@ use Rattle.host_traits.specs.Held.{Held, File, serve}
 use Rattle.host_traits.specs.Told.{Exchanges}
 use Rattle.host_traits.specs.Did.{Trace, IsIn, IsFailed}
 use Rattle.sha_tree.specs.declared.measure.Measure.{Measure}
-use Rattle.sha_tree.specs.Tree.{block_count, root, stored_tree, tree_pages}
+use Rattle.sha_tree.specs.Tree.{block_count, root, tree_pages}
 use Rattle.sha_tree.specs.Measured.{IsMeasured}
 use Rattle.sha_tree.proofs.Pages.{length-page_hash}
 use Rattle.sha_tree.proofs.Stored.{length-stored}
 use Rattle.verity_path.specs.declared.device.Device.{Device}
-use Rattle.verity_path.specs.declared.walk.Layout.TheVariants.{Parts}
 use Rattle.verity_descriptor.specs.declared.Descriptor.{Descriptor}
 use Rattle.verity_descriptor.specs.Spelling.{IsDescriptor, descriptor_bytes}
 use Rattle.gpt.specs.declared.values.Table.{Table}
@@ -25,7 +24,7 @@ use Rattle.gpt.specs.Names.{part}
 use Rattle.idsig_v4.proofs.Spelled.{read_again}
 use Rattle.apk_verity.specs.declared.ApkFault.{ApkFault}
 use Rattle.apk_verity.specs.declared.ApkFault.TheVariants as apks
-use Rattle.apk_verity.specs.Opening.{Opening, opening, idsig_call, count_of, measure_of, opened, OpenOutcome, IsIdsigCall}
+use Rattle.apk_verity.specs.Opening.{Opening, opening, idsig_call, count_of, opened, IsIdsigCall}
 use Rattle.apk_verity.proofs.Outcomes.{part_opens}
 use Rattle.ro_file.specs.declared.files.RoFault.{RoFault}
 use Rattle.ro_file.specs.declared.files.RoFault.TheVariants as files
@@ -36,7 +35,7 @@ use Rattle.ro_file.proofs.Standing.{length-descriptor, open_whole}
 use Rattle.guest_plan.specs.declared.plan.How.{How}
 use Rattle.guest_boot.specs.declared.faults.BootCause.{BootCause}
 use Rattle.guest_boot.specs.declared.faults.BootCause.TheVariants.{Gpt, NoPart, Apk, File as FileCause, Failed, Short, Memory}
-use Rattle.guest_boot.specs.Finding.{TableNext, table_on, parts_in}
+use Rattle.guest_boot.specs.Finding.{table_on, parts_in}
 use Rattle.guest_boot.specs.Booting.{Booted, measure_in, later_of, ApkIsRefused, ApkFails, FileFails}
 use Rattle.guest_rules.proofs.Holding.{pair_is}
 use Rattle.guest_laws.specs.Fitting.{HoldsApk, HoldsReadOnly, AreTrue}

@@ -1,5 +1,5 @@
 -- A read of the device of an `apk` line.
-use Rattle.std.proofs.Common.{◌≡◌, ℕ, List, Option, None, Some, refl, sym, subst, inl, inr, ⊎_elim, arith}
+use Rattle.std.proofs.Common.{◌≡◌, ℕ, List, Option, Some, refl, sym, subst, inl, inr, ⊎_elim, arith}
 use Rattle.std.specs.Prelude.{◌⊎◌, slice_get}
 use Rattle.host_traits.specs.Held.{Held}
 use Rattle.host_traits.specs.Told.{Exchanges, failures_of}
@@ -15,7 +15,7 @@ use Rattle.guest_plan.specs.declared.plan.How.{How}
 use Rattle.guest_plan.specs.declared.plan.PlanLine.{PlanLine}
 use Rattle.guest_plan.specs.declared.plan.PlanLine.TheVariants as line
 use Rattle.guest_boot.specs.Booting.{AreServed, Booted, Boots, nothing}
-use Rattle.guest_rules.specs.Machine.{Setting, World, Moment, Turn, ItemRead, Request, State, IsItem, read_of, request_of}
+use Rattle.guest_rules.specs.Machine.{Setting, World, Moment, Turn, ItemRead, Request, IsItem, read_of, request_of}
 use Rattle.guest_rules.specs.ItemRow.{ItemRow, no_item, too_large, served, blamed, no_memory}
 use Rattle.guest_rules.specs.Step.{Step, Row, trace}
 use Rattle.sha_tree.specs.Measured.{IsMeasured}

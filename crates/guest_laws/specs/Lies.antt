@@ -1,5 +1,5 @@
 -- What a mismatch says where the content is known: the answer that it blames isn't the content's page.
-use Rattle.std.specs.Prelude.{◌≡◌, ◌≢◌, ℕ, List, slice_get, Option, Some, Result, Ok}
+use Rattle.std.specs.Prelude.{◌≡◌, ◌≢◌, ℕ, List, slice_get, Some, Result, Ok}
 use Rattle.host_traits.specs.declared.calls.Said.TheVariants.{Bytes}
 use Rattle.host_traits.specs.Told.{Exchanges, heard_of}
 use Rattle.sha_tree.specs.declared.measure.Measure.{Measure}

@@ -11,7 +11,7 @@ use Rattle.fuse_server.specs.Aims.{reads, aim_of, number_of}
 use Rattle.guest_plan.specs.declared.plan.PlanLine.{PlanLine}
 use Rattle.guest_plan.specs.declared.plan.PlanLine.TheVariants as line
 use Rattle.guest_boot.specs.declared.faults.BootFault.{BootFault}
-use Rattle.guest_rules.specs.Machine.{Setting, State, World, Moment, moment, Turn, ItemRead, message_of, request_of, read_of}
+use Rattle.guest_rules.specs.Machine.{Setting, World, Moment, moment, Turn, ItemRead, message_of, request_of, read_of}
 use Rattle.guest_rules.specs.Step.{Step}
 use Rattle.guest_rules.specs.Run.{IsEarly, IsWorld, calls_of}
 use Rattle.guest_rules.specs.Faithful.{IsDefined, IsReadDefined}
