@@ -13,7 +13,7 @@ use Rattle.fuse_codec.specs.Reply as reply
 use Rattle.fuse_codec.specs.Reply.{Answer}
 use Rattle.fuse_server.specs.State.{State, Files, file_at, as_file, attr_of, live, live_file, held}
 use Rattle.fuse_server.specs.Aims.{Aim, says, makes, reads, is_old, init_aim, lookup_aim, getattr_aim, setattr_aim, size_refusal, asks_size, open_aim, read_aim, write_aim, handled_aim, add_aim, remove_aim, statfs_aim, ready_aim, message_aim, aim_of}
-use Rattle.fuse_server.specs.Effects.{Becomes, UnlessRefused, counted}
+use Rattle.fuse_server.specs.Effects.{Change, nothing, initialises, counts, forgets, forgets_all, opens, closes, destroys, change_of, Changed, UnlessRefused, counted}
 use Rattle.fuse_server.specs.Serving.{FilesStay}
 
 -- ---- the files stay
@@ -40,35 +40,18 @@ module _ (s new : State) where
   unless E (reply.inited x) u f = f u
   unless E (reply.bytes_out bytes) u f = f u
 
-  kept : (a : Answer) → UnlessRefused s new (new ≡ s) a → new.files ≡ s.files
-  kept a u = unless (new ≡ s) a u (λ e. rw e refl)
-
-  becomes : (node : ℕ) (asked : Asked) (a : Answer) → Becomes s node asked a new → new.files ≡ s.files
-  becomes node (init i j k l) a u = unless _ a u (λ e. rw e refl)
-  becomes node (lookup name) a u = unless _ a u (looked s new (lookup_check s.names.nodes node name))
-  becomes node (forget n) a u = unless _ a u (λ e. same_if s new _ s.ready e refl)
-  becomes node (batch_forget pairs) a u = unless _ a u (λ e. same_if s new _ s.ready e refl)
-  becomes node interrupt a u = kept a u
-  becomes node getattr a u = kept a u
-  becomes node (setattr valid size) a u = kept a u
-  becomes node (opening flags) a u = unless _ a u (λ e. rw e refl)
-  becomes node opendir a u = kept a u
-  becomes node (read fh offset size) a u = rw u refl
-  becomes node (write fh offset bytes) a u = kept a u
-  becomes node (flush fh) a u = kept a u
-  becomes node (fsync fh) a u = kept a u
-  becomes node (release fh) a u = unless _ a u (λ e. rw e refl)
-  becomes node (releasedir fh) a u = kept a u
-  becomes node (readdir fh offset size) a u = kept a u
-  becomes node (create name) a u = kept a u
-  becomes node (mkdir name) a u = kept a u
-  becomes node (unlink name) a u = kept a u
-  becomes node (rmdir name) a u = kept a u
-  becomes node statfs a u = kept a u
-  becomes node destroy a u = unless _ a u (λ d. d.files)
+  changed : (node : ℕ) (change : Change) (a : Answer) → Changed s node change a new → new.files ≡ s.files
+  changed node nothing a u = rw u refl
+  changed node (initialises major) a u = unless _ a u (λ e. rw e refl)
+  changed node (counts name) a u = unless _ a u (looked s new (lookup_check s.names.nodes node name))
+  changed node (forgets n) a u = unless _ a u (λ e. same_if s new _ s.ready e refl)
+  changed node (forgets_all pairs) a u = unless _ a u (λ e. same_if s new _ s.ready e refl)
+  changed node opens a u = unless _ a u (λ e. rw e refl)
+  changed node (closes fh) a u = unless _ a u (λ e. rw e refl)
+  changed node destroys a u = unless _ a u (λ d. d.files)
 
 pub files_stay : FilesStay
-files_stay s (Ok m) a new u = becomes s new m.node m.asked a u
+files_stay s (Ok m) a new u = changed s new m.node (change_of m.asked) a u
 files_stay s (Err bad) a new u = rw u refl
 
 -- ---- a READ is of a file
@@ -114,9 +97,13 @@ module _ (s : State) where
       → OfFiles s.files (live_file s n >>= λ f. held s fh n >>= λ u. rest f)
   held_of n fh rest so = bind_of s.files (live_file s n) _ (λ f e. bind_of s.files (held s fh n) _ (λ u g. so f e))
 
+  init_of : (a b c e : ℕ) → OfFiles s.files (init_aim s a b c e)
+  unfolding init_aim
+  init_of a b c e = bind_of s.files (needs (not s.ready) Eproto) _ (λ u f. bind_of s.files (needs (not (is_old a b)) Eproto) _ (λ v g. tt))
+
   ready_of : (n : ℕ) (asked : Asked) → OfFiles s.files (ready_aim s n asked)
   unfolding ready_aim lookup_aim setattr_aim open_aim read_aim write_aim handled_aim add_aim remove_aim statfs_aim
-  ready_of n (init a b c e) = tt
+  ready_of n (init a b c e) = init_of a b c e
   ready_of n (forget k) = tt
   ready_of n (batch_forget pairs) = tt
   ready_of n interrupt = tt
@@ -140,10 +127,6 @@ module _ (s : State) where
   ready_of n (rmdir name) = bind_of s.files (may_remove s.names.nodes n name true) _ (λ host e. tt)
   ready_of n statfs = bind_of s.files (live s n) _ (λ kind e. tt)
   ready_of n destroy = tt
-
-  init_of : (a b c e : ℕ) → OfFiles s.files (init_aim s a b c e)
-  unfolding init_aim
-  init_of a b c e = bind_of s.files (needs (not s.ready) Eproto) _ (λ u f. bind_of s.files (needs (not (is_old a b)) Eproto) _ (λ v g. tt))
 
   -- once initialised
   then_ready : (n : ℕ) (asked : Asked) → OfFiles s.files (needs s.ready Eproto >>= λ u. ready_aim s n asked)

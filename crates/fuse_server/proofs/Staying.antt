@@ -9,11 +9,11 @@ use Rattle.std.specs.FinMap as map
 use Rattle.mg_base.specs.declared.errno.Errno.{Errno}
 use Rattle.authfs_dirs.specs.declared.kind.Kind.{Kind}
 use Rattle.authfs_dirs.specs.Names.{Node, NodeMap, Names, node_at, put_if, changed, settled, settle_if, lives, one_more, with_lookups, with_pins, looked_up, forgotten, pinned, unpinned, cleared, reset_node, IsReset, lookup_check}
-use Rattle.fuse_codec.specs.Message.{Asked, init, lookup, forget, batch_forget, interrupt, getattr, setattr, opening, opendir, read, write, flush, fsync, release, releasedir, readdir, create, mkdir, unlink, rmdir, statfs, destroy, Message, Bad}
+use Rattle.fuse_codec.specs.Message.{Message, Bad}
 use Rattle.fuse_codec.specs.Reply as reply
 use Rattle.fuse_codec.specs.Reply.{Answer}
 use Rattle.fuse_server.specs.State.{State, Files}
-use Rattle.fuse_server.specs.Effects.{Next, Becomes, UnlessRefused, IsDestroyed, counted, all_forgotten, with_handle, without_handle, initialised}
+use Rattle.fuse_server.specs.Effects.{Change, nothing, initialises, counts, forgets, forgets_all, opens, closes, destroys, change_of, Changed, Next, UnlessRefused, IsDestroyed, counted, all_forgotten, with_handle, without_handle, initialised}
 use Rattle.fuse_server.specs.Serving.{IsServedKind, AreServed}
 
 -- each node of the one is a node of the other, of the same kind
@@ -136,30 +136,16 @@ init_stays s new major e w = rw e w
 destroyed_stays : (s new : State) → IsDestroyed s new → AreServed s.names s.files → AreServed new.names new.files
 destroyed_stays s new d w = rw d.files (served_on s.names new.names s.files (keeps_reset s.names new.names d.names) w)
 
-becomes_stays : (s : State) (node : ℕ) (asked : Asked) (a : Answer) (new : State) → Becomes s node asked a new → AreServed s.names s.files → AreServed new.names new.files
-becomes_stays s node (init i j k l) a new u w = unless s new _ a u (init_stays s new i) w
-becomes_stays s node (lookup name) a new u w = unless s new _ a u (looked s new (lookup_check s.names.nodes node name)) w
-becomes_stays s node (forget n) a new u w = unless s new _ a u (λ e. names_if s new s.ready _ e (served_on s.names (forgotten s.names node n) s.files (keeps_forgotten s.names node n))) w
-becomes_stays s node (batch_forget pairs) a new u w = unless s new _ a u (λ e. names_if s new s.ready _ e (forgotten_all s.names pairs s.files)) w
-becomes_stays s node interrupt a new u w = unless s new _ a u (stays s new) w
-becomes_stays s node getattr a new u w = unless s new _ a u (stays s new) w
-becomes_stays s node (setattr valid size) a new u w = unless s new _ a u (stays s new) w
-becomes_stays s node (opening flags) a new u w = unless s new _ a u (opened_stays s new node) w
-becomes_stays s node opendir a new u w = unless s new _ a u (stays s new) w
-becomes_stays s node (read fh offset size) a new u w = stays s new u w
-becomes_stays s node (write fh offset bytes) a new u w = unless s new _ a u (stays s new) w
-becomes_stays s node (flush fh) a new u w = unless s new _ a u (stays s new) w
-becomes_stays s node (fsync fh) a new u w = unless s new _ a u (stays s new) w
-becomes_stays s node (release fh) a new u w = unless s new _ a u (released_stays s new node fh) w
-becomes_stays s node (releasedir fh) a new u w = unless s new _ a u (stays s new) w
-becomes_stays s node (readdir fh offset size) a new u w = unless s new _ a u (stays s new) w
-becomes_stays s node (create name) a new u w = unless s new _ a u (stays s new) w
-becomes_stays s node (mkdir name) a new u w = unless s new _ a u (stays s new) w
-becomes_stays s node (unlink name) a new u w = unless s new _ a u (stays s new) w
-becomes_stays s node (rmdir name) a new u w = unless s new _ a u (stays s new) w
-becomes_stays s node statfs a new u w = unless s new _ a u (stays s new) w
-becomes_stays s node destroy a new u w = unless s new _ a u (destroyed_stays s new) w
+changed_stays : (s : State) (node : ℕ) (change : Change) (a : Answer) (new : State) → Changed s node change a new → AreServed s.names s.files → AreServed new.names new.files
+changed_stays s node nothing a new u w = stays s new u w
+changed_stays s node (initialises major) a new u w = unless s new _ a u (init_stays s new major) w
+changed_stays s node (counts name) a new u w = unless s new _ a u (looked s new (lookup_check s.names.nodes node name)) w
+changed_stays s node (forgets n) a new u w = unless s new _ a u (λ e. names_if s new s.ready _ e (served_on s.names (forgotten s.names node n) s.files (keeps_forgotten s.names node n))) w
+changed_stays s node (forgets_all pairs) a new u w = unless s new _ a u (λ e. names_if s new s.ready _ e (forgotten_all s.names pairs s.files)) w
+changed_stays s node opens a new u w = unless s new _ a u (opened_stays s new node) w
+changed_stays s node (closes fh) a new u w = unless s new _ a u (released_stays s new node fh) w
+changed_stays s node destroys a new u w = unless s new _ a u (destroyed_stays s new) w
 
 pub next_stays : (s : State) (m : Result Message Bad) (a : Answer) (new : State) → Next s m a new → AreServed s.names s.files → AreServed new.names new.files
-next_stays s (Ok m) a new u w = becomes_stays s m.node m.asked a new u w
+next_stays s (Ok m) a new u w = changed_stays s m.node (change_of m.asked) a new u w
 next_stays s (Err bad) a new u w = stays s new u w

@@ -109,7 +109,7 @@ statfs_aim s node = live s node >>= λ _. Ok (says statfs_out)
 
 -- once initialised; OPENDIR, READDIR and RELEASEDIR are not served
 unfoldable pub ready_aim : State → ℕ → Asked → Result Aim Errno
-ready_aim s node (init major minor readahead flags) = Ok (says silent)
+ready_aim s node (init major minor readahead flags) = init_aim s major minor readahead flags
 ready_aim s node (lookup name) = lookup_aim s node name
 ready_aim s node (forget n) = Ok (says silent)
 ready_aim s node (batch_forget pairs) = Ok (says silent)

@@ -3,9 +3,8 @@ use Rattle.std.specs.Prelude.{◌≡◌, true, false, ℕ, ◌+◌, nat_lt, List
 use Rattle.mg_base.specs.declared.errno.Errno.{Errno}
 use Rattle.authfs_dirs.specs.Names.{Names, lookup_check, looked_up, forgotten, pinned, unpinned, IsReset}
 use Rattle.authfs_files.specs.Open.{closed}
-use Rattle.fuse_codec.specs.Message.{Asked, init, lookup, forget, batch_forget, opening, read, release, destroy, Message, Bad}
-use Rattle.fuse_codec.specs.Reply as reply
-use Rattle.fuse_codec.specs.Reply.{Answer}
+use Rattle.fuse_codec.specs.Message.{Asked, init, lookup, forget, batch_forget, interrupt, getattr, setattr, opening, opendir, read, write, flush, fsync, release, releasedir, readdir, create, mkdir, unlink, rmdir, statfs, destroy, Message, Bad}
+use Rattle.fuse_codec.specs.Reply.{Answer, refused, silent, empty, entry, attributes, opened, created, written, statfs_out, inited, bytes_out}
 use Rattle.fuse_server.specs.State.{State}
 
 abbrev pub with_names : State → Names → State
@@ -40,35 +39,71 @@ pub record IsDestroyed (s new : State) : Type 0 where
   pub given : new.given ≡ s.given
   pub files : new.files ≡ s.files
 
--- what an answer that is no refusal makes of the state
-abbrev pub Effect : State → ℕ → Asked → State → Type 0
-Effect s node (init major minor readahead flags) new = new ≡ initialised s major
-Effect s node (lookup name) new = new ≡ counted s (lookup_check s.names.nodes node name)
-Effect s node (forget n) new = new ≡ (if s.ready then with_names s (forgotten s.names node n) else s)
-Effect s node (batch_forget pairs) new = new ≡ (if s.ready then with_names s (all_forgotten s.names pairs) else s)
-Effect s node (opening flags) new = new ≡ with_handle s node
-Effect s node (release fh) new = new ≡ without_handle s node fh
-Effect s node destroy new = IsDestroyed s new
-Effect s node other new = new ≡ s
+-- what an operation changes, where its answer is no refusal
+pub data Change : Type 0 where
+  nothing : Change
+  initialises : (major : ℕ) → Change
+  counts : (name : List ℕ) → Change
+  forgets : (nlookup : ℕ) → Change
+  forgets_all : (pairs : List (ℕ × ℕ)) → Change
+  opens : Change
+  closes : (fh : ℕ) → Change
+  destroys : Change
 
--- the state, or where it is refused the old one
+abbrev pub change_of : Asked → Change
+change_of (init major minor readahead flags) = initialises major
+change_of (lookup name) = counts name
+change_of (forget n) = forgets n
+change_of (batch_forget pairs) = forgets_all pairs
+change_of interrupt = nothing
+change_of getattr = nothing
+change_of (setattr valid size) = nothing
+change_of (opening flags) = opens
+change_of opendir = nothing
+change_of (read fh offset size) = nothing
+change_of (write fh offset bytes) = nothing
+change_of (flush fh) = nothing
+change_of (fsync fh) = nothing
+change_of (release fh) = closes fh
+change_of (releasedir fh) = nothing
+change_of (readdir fh offset size) = nothing
+change_of (create name) = nothing
+change_of (mkdir name) = nothing
+change_of (unlink name) = nothing
+change_of (rmdir name) = nothing
+change_of statfs = nothing
+change_of destroy = destroys
+
+-- this, or where it is refused the old state
 abbrev pub UnlessRefused : State → State → Type 0 → Answer → Type 0
-UnlessRefused old new E (reply.refused e) = new ≡ old
-UnlessRefused old new E other = E
+UnlessRefused old new E (refused e) = new ≡ old
+UnlessRefused old new E silent = E
+UnlessRefused old new E empty = E
+UnlessRefused old new E (entry out) = E
+UnlessRefused old new E (attributes attr) = E
+UnlessRefused old new E (opened handle) = E
+UnlessRefused old new E (created out handle) = E
+UnlessRefused old new E (written count) = E
+UnlessRefused old new E statfs_out = E
+UnlessRefused old new E (inited out) = E
+UnlessRefused old new E (bytes_out bytes) = E
 
--- a refusal changes nothing, nor does a READ
+-- what a change makes of the state
+abbrev pub Changed : State → ℕ → Change → Answer → State → Type 0
+Changed s node nothing answer new = new ≡ s
+Changed s node (initialises major) answer new = UnlessRefused s new (new ≡ initialised s major) answer
+Changed s node (counts name) answer new = UnlessRefused s new (new ≡ counted s (lookup_check s.names.nodes node name)) answer
+Changed s node (forgets n) answer new = UnlessRefused s new (new ≡ (if s.ready then with_names s (forgotten s.names node n) else s)) answer
+Changed s node (forgets_all pairs) answer new = UnlessRefused s new (new ≡ (if s.ready then with_names s (all_forgotten s.names pairs) else s)) answer
+Changed s node opens answer new = UnlessRefused s new (new ≡ with_handle s node) answer
+Changed s node (closes fh) answer new = UnlessRefused s new (new ≡ without_handle s node fh) answer
+Changed s node destroys answer new = UnlessRefused s new (IsDestroyed s new) answer
+
+-- the state after an operation that was answered so
 abbrev pub Becomes : State → ℕ → Asked → Answer → State → Type 0
-Becomes s node (read fh offset size) answer new = new ≡ s
-Becomes s node other answer new = UnlessRefused s new (Effect s node other new) answer
+Becomes s node asked answer new = Changed s node (change_of asked) answer new
 
 -- the state after a message that was answered so
 abbrev pub Next : State → Result Message Bad → Answer → State → Type 0
 Next s (Ok m) answer new = Becomes s m.node m.asked answer new
 Next s (Err bad) answer new = new ≡ s
-
--- once initialised, of all messages but those that go before INIT
-abbrev pub BecomesReady : State → ℕ → Asked → Answer → State → Type 0
-BecomesReady s node (init major minor readahead flags) answer new = new ≡ s
-BecomesReady s node (forget n) answer new = new ≡ s
-BecomesReady s node (batch_forget pairs) answer new = new ≡ s
-BecomesReady s node other answer new = Becomes s node other answer new

@@ -4,7 +4,7 @@ ghost use Rattle.fuse_codec.specs.Reading.{u64_at, pairs_in};
 ghost use Rattle.fuse_codec.specs.Said.{asked_of, AreWhole};
 ghost use Rattle.fuse_server.specs.Aims.{message_aim, ready_aim};
 ghost use Rattle.fuse_server.specs.Deeds.{IsDeed, IsFew, NoRead, ReadsBy, answer_to};
-ghost use Rattle.fuse_server.specs.Effects.{Becomes, BecomesReady, with_names, all_forgotten};
+ghost use Rattle.fuse_server.specs.Effects.{Becomes, with_names, all_forgotten};
 ghost use Rattle.fuse_server.specs.Parts.{state_of};
 
 use crate::deed::Deed;
@@ -81,9 +81,10 @@ fn batch_forget(parts: &mut Parts, pairs: &[u8]) -> Result<Deed, Errno>
 fn perform_ready(parts: &mut Parts, node: u64, body: &Body<'_>) -> Result<Deed, Errno>
     requires ready { parts.old.ready ≡ true }
     requires few { IsFew (asked_of body.now) }
+    requires whole { AreWhole body.now }
     ensures row { IsDeed (ready_aim (state_of parts.old) node (asked_of body.now)) result }
     ensures few { ReadsBy (asked_of body.now) result }
-    ensures next { BecomesReady (state_of parts.old) node (asked_of body.now)
+    ensures next { Becomes (state_of parts.old) node (asked_of body.now)
         (answer_to result) (state_of parts.new) }
 {
     match *body {
@@ -103,9 +104,15 @@ fn perform_ready(parts: &mut Parts, node: u64, body: &Body<'_>) -> Result<Deed, 
         Body::Statfs => statfs(parts, node),
         Body::Destroy => destroy(parts),
         Body::Opendir | Body::Readdir { .. } | Body::Releasedir { .. } => Err(Errno::Enosys),
-        Body::Init { .. } | Body::Forget { .. } | Body::BatchForget { .. } | Body::Interrupt => {
-            Ok(Deed::Silent)
-        }
+        Body::Init {
+            major,
+            minor,
+            max_readahead,
+            flags,
+        } => init(parts, major, minor, max_readahead, flags),
+        Body::Forget { nlookup } => forget(parts, node, nlookup),
+        Body::BatchForget { pairs } => batch_forget(parts, pairs),
+        Body::Interrupt => Ok(Deed::Silent),
     }
 }
 

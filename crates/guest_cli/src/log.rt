@@ -32,6 +32,14 @@ fn put_cause(line: &mut Line, cause: &Cause)
             line.put(b" failed ");
             line.number(*faults);
         }
+        Cause::Tag { found } => {
+            line.put(b" tag ");
+            line.hex(found);
+        }
+        Cause::Changed { sector } => {
+            line.put(b" changed ");
+            line.number(*sector);
+        }
     }
 }
 

@@ -14,11 +14,11 @@ use Rattle.authfs_dirs.specs.Names.{Entry, Node, NodeMap, Names, node_at, kind_a
 use Rattle.authfs_dirs.specs.Tree.{IsRoot, IsChild}
 use Rattle.authfs_dirs.proofs.TreeLemmas.{get_changed, get_settled, kept}
 use Rattle.authfs_dirs.proofs.TreeLaws.{finds_children}
-use Rattle.fuse_codec.specs.Message.{Asked, init, lookup, forget, batch_forget, interrupt, getattr, setattr, opening, opendir, read, write, flush, fsync, release, releasedir, readdir, create, mkdir, unlink, rmdir, statfs, destroy, Message, Bad}
+use Rattle.fuse_codec.specs.Message.{Message, Bad}
 use Rattle.fuse_codec.specs.Reply as reply
 use Rattle.fuse_codec.specs.Reply.{Answer}
 use Rattle.fuse_server.specs.State.{State as Fuse}
-use Rattle.fuse_server.specs.Effects.{Next, Becomes, UnlessRefused, counted, all_forgotten}
+use Rattle.fuse_server.specs.Effects.{Change, nothing, initialises, counts, forgets, forgets_all, opens, closes, destroys, change_of, Changed, Next, UnlessRefused, counted, all_forgotten}
 use Rattle.guest_names.specs.Standing.{file_count, names_at_boot}
 use Rattle.guest_names.specs.Promises.{StandsSound}
 use Rattle.guest_names.proofs.Making.{counted as files_counted}
@@ -164,35 +164,18 @@ module _ (s new : Fuse) where
   unless E (reply.inited x) u f = f u
   unless E (reply.bytes_out bytes) u f = f u
 
-  unchanged : (a : Answer) → UnlessRefused s new (new ≡ s) a → KeepsNames s new
-  unchanged a u = unless (new ≡ s) a u same_state
-
-  becomes : (node : ℕ) (asked : Asked) (a : Answer) → Becomes s node asked a new → KeepsNames s new
-  becomes node (init major minor readahead flags) a u = unless _ a u (λ e. rw e (keeps_all s.names.nodes))
-  becomes node (lookup name) a u = unless _ a u (keeps_counted s new (lookup_check s.names.nodes node name))
-  becomes node (forget n) a u = unless _ a u (λ e. keeps_if s _ new s.ready e (keeps_forgotten s.names node n))
-  becomes node (batch_forget pairs) a u = unless _ a u (λ e. keeps_if s _ new s.ready e (keeps_pairs s.names pairs))
-  becomes node interrupt a u = unchanged a u
-  becomes node getattr a u = unchanged a u
-  becomes node (setattr valid size) a u = unchanged a u
-  becomes node (opening flags) a u = unless _ a u (λ e. rw e (keeps_pinned s.names node))
-  becomes node opendir a u = unchanged a u
-  becomes node (read fh offset size) a u = same_state u
-  becomes node (write fh offset bytes) a u = unchanged a u
-  becomes node (flush fh) a u = unchanged a u
-  becomes node (fsync fh) a u = unchanged a u
-  becomes node (release fh) a u = unless _ a u (λ e. rw e (keeps_unpinned s.names node))
-  becomes node (releasedir fh) a u = unchanged a u
-  becomes node (readdir fh offset size) a u = unchanged a u
-  becomes node (create name) a u = unchanged a u
-  becomes node (mkdir name) a u = unchanged a u
-  becomes node (unlink name) a u = unchanged a u
-  becomes node (rmdir name) a u = unchanged a u
-  becomes node statfs a u = unchanged a u
-  becomes node destroy a u = unless _ a u (λ d. keeps_reset s.names new.names d.names)
+  changed_keeps : (node : ℕ) (change : Change) (a : Answer) → Changed s node change a new → KeepsNames s new
+  changed_keeps node nothing a u = same_state u
+  changed_keeps node (initialises major) a u = unless _ a u (λ e. rw e (keeps_all s.names.nodes))
+  changed_keeps node (counts name) a u = unless _ a u (keeps_counted s new (lookup_check s.names.nodes node name))
+  changed_keeps node (forgets n) a u = unless _ a u (λ e. keeps_if s _ new s.ready e (keeps_forgotten s.names node n))
+  changed_keeps node (forgets_all pairs) a u = unless _ a u (λ e. keeps_if s _ new s.ready e (keeps_pairs s.names pairs))
+  changed_keeps node opens a u = unless _ a u (λ e. rw e (keeps_pinned s.names node))
+  changed_keeps node (closes fh) a u = unless _ a u (λ e. rw e (keeps_unpinned s.names node))
+  changed_keeps node destroys a u = unless _ a u (λ d. keeps_reset s.names new.names d.names)
 
   next_keeps : (m : Result Message Bad) (a : Answer) → Next s m a new → KeepsNames s new
-  next_keeps (Ok m) a u = becomes m.node m.asked a u
+  next_keeps (Ok m) a u = changed_keeps m.node (change_of m.asked) a u
   next_keeps (Err bad) a u = same_state u
 
 -- ---- a run

@@ -9,7 +9,7 @@ use Rattle.host_traits.proofs.Doing.{each_so}
 use Rattle.host_traits.proofs.Talking.{heard_of-append, talked_not, talked_on}
 use Rattle.session_frames.specs.Frames.{Framed}
 use Rattle.session_frames.specs.Replies.{Sent, reply_frame}
-use Rattle.session_frames.proofs.Prefixes.{appends_then}
+use Rattle.host_traits.proofs.Prefixes.{appends_then}
 use Rattle.verity_path.specs.declared.device.Cause.{Cause}
 use Rattle.guest_rules.specs.Machine.{Setting, State, Moment, moment, Turn, nowhere, request_of}
 use Rattle.guest_rules.specs.Step.{IsFor, most_for, Row, Stepped}

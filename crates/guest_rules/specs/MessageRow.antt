@@ -5,7 +5,7 @@ use Rattle.host_traits.specs.Did.{Trace}
 use Rattle.session_frames.specs.Replies.{Sent, message_sent}
 use Rattle.verity_path.specs.declared.device.Cause.{Cause}
 use Rattle.fuse_codec.specs.Message.{Message, Bad}
-use Rattle.fuse_codec.specs.Reply.{Answer, bytes_out}
+use Rattle.fuse_codec.specs.Reply.{Answer, refused, silent, empty, entry, attributes, opened, created, written, statfs_out, inited, bytes_out}
 use Rattle.fuse_server.specs.State.{State as Fuse}
 use Rattle.fuse_server.specs.Aims.{Aim, says, makes, reads, aim_of, number_of}
 use Rattle.fuse_server.specs.Effects.{Next}
@@ -14,8 +14,18 @@ use Rattle.guest_rules.specs.Machine.{World, Salted}
 
 -- where the content of a file is known, bytes that are answered are the content's from offset on, cut at its end
 abbrev pub IsSliceOf : Option Salted → ℕ → ℕ → Answer → Type 0
+IsSliceOf None offset size answer = Unit {0}
 IsSliceOf (Some c) offset size (bytes_out bytes) = bytes ≡ take size (drop offset c.content)
-IsSliceOf content offset size answer = Unit {0}
+IsSliceOf (Some c) offset size (refused errno) = Unit {0}
+IsSliceOf (Some c) offset size silent = Unit {0}
+IsSliceOf (Some c) offset size empty = Unit {0}
+IsSliceOf (Some c) offset size (entry out) = Unit {0}
+IsSliceOf (Some c) offset size (attributes attr) = Unit {0}
+IsSliceOf (Some c) offset size (opened handle) = Unit {0}
+IsSliceOf (Some c) offset size (created out handle) = Unit {0}
+IsSliceOf (Some c) offset size (written count) = Unit {0}
+IsSliceOf (Some c) offset size statfs_out = Unit {0}
+IsSliceOf (Some c) offset size (inited out) = Unit {0}
 
 -- the same of what a message aims at: a READ alone gives bytes of a file
 abbrev pub IsOfFile : World → Result Aim Errno → Answer → Type 0

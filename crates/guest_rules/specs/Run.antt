@@ -10,7 +10,7 @@ use Rattle.sha_tree.specs.Measured.{IsMeasured}
 use Rattle.sha_tree.specs.Path.{IsInput, NoClash}
 use Rattle.verity_path.specs.Pieces.{IsSeen}
 use Rattle.verity_path.specs.declared.device.Cause.{Cause}
-use Rattle.verity_path.specs.declared.device.Cause.TheVariants.{Mismatch, Short, Failed}
+use Rattle.verity_path.specs.declared.device.Cause.TheVariants.{Mismatch, Short, Failed, Tag, Changed}
 use Rattle.verity_path.specs.declared.device.Device.{Device}
 use Rattle.verity_descriptor.specs.Spelling.{descriptor_bytes}
 use Rattle.ro_file.specs.Files.{MeasuredFile}
@@ -92,6 +92,8 @@ abbrev pub cause_words : Cause → List ℕ
 cause_words (Mismatch x) = codes " mismatch " ++ decimal x.level ++ space ++ decimal x.index ++ space ++ encode_lower x.expected.0 ++ space ++ encode_lower x.found.0
 cause_words (Short asked got) = codes " short " ++ decimal asked ++ space ++ decimal got
 cause_words (Failed faults) = codes " failed " ++ decimal faults
+cause_words (Tag found) = codes " tag " ++ encode_lower found
+cause_words (Changed sector) = codes " changed " ++ decimal sector
 
 -- the line of a frame that begins at this offset of the stream: one where its reply has a cause, else none
 abbrev pub log_line : ℕ → Option Cause → List ℕ

@@ -6,13 +6,14 @@ use Rattle.fuse_codec.specs.declared.reply.FuseReply.{FuseReply}
 use Rattle.fuse_codec.specs.Sent.{unique_of, answer_of, sent}
 use Rattle.session_frames.specs.Frames.{frame}
 use Rattle.session_frames.specs.declared.reply.ReplyFrame.{ReplyFrame}
-use Rattle.session_frames.specs.declared.reply.ReplyFrame.TheVariants.{Fuse, Bytes, Code}
+use Rattle.session_frames.specs.declared.reply.ReplyFrame.TheVariants.{Fuse, Bytes, Text, Code}
 
--- a reply: none, that to a message of FUSE, the bytes of a measured read, or a code on a channel
+-- a reply: none, that to a message of FUSE, the bytes of a measured read, the text of a record, or a code on a channel
 pub data Sent : Type 0 where
   sent_nothing : Sent
   sent_answer : (unique : ℕ) (answer : Answer) → Sent
   sent_bytes : List ℕ → Sent
+  sent_text : List ℕ → Sent
   sent_code : ℕ → ℕ → Sent
 
 -- the reply to the message of this number: none where its answer is silent
@@ -25,17 +26,19 @@ abbrev pub frame_if : Option (List ℕ) → List ℕ
 frame_if None = []
 frame_if (Some bytes) = frame 0 bytes
 
--- its frame: the reply to a message alone, or a code of four bytes, and after code 0 of channel 1 the bytes
+-- its frame: the reply to a message alone, or a code of four bytes, and after code 0 of channel 1 the bytes, of channel 2 the text
 abbrev pub reply_frame : Sent → List ℕ
 reply_frame sent_nothing = []
 reply_frame (sent_answer unique answer) = frame_if (reply_bytes unique answer)
 reply_frame (sent_bytes bytes) = frame 1 (to_le_bytes w32 0 ++ bytes)
+reply_frame (sent_text text) = frame 2 (to_le_bytes w32 0 ++ text)
 reply_frame (sent_code channel code) = frame channel (to_le_bytes w32 code)
 
 -- a reply, with the bytes that it sends
 abbrev pub sent_of : ReplyFrame → List ℕ → Sent
 sent_of (Fuse reply) served = sent_answer (unique_of reply) (answer_of reply served)
 sent_of Bytes served = sent_bytes served
+sent_of (Text text) served = sent_text text
 sent_of (Code channel code) served = sent_code channel code
 
 -- the same where there may be none

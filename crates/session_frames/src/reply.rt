@@ -8,6 +8,7 @@ ghost use Rattle.session_frames.specs.Replies.{sent_answer, sent_of, reply_frame
 
 use fuse_codec::{FuseReply, encode_reply, reply_len};
 use host_traits::{Failed, Sink};
+use sealed_record::OpenedText;
 use verity_path::Served;
 
 /// A reply.
@@ -17,6 +18,8 @@ pub enum ReplyFrame {
     Fuse(FuseReply),
     /// Channel 1: code 0, and the bytes that are served.
     Bytes,
+    /// Channel 2: code 0, and the text of a record, which was opened.
+    Text(OpenedText),
     /// A code without bytes.
     Code { channel: u8, code: u32 },
 }
@@ -86,6 +89,11 @@ pub fn write_frame<K: Sink>(frame: &ReplyFrame, served: &Served, sink: &mut K) -
         ReplyFrame::Bytes => {
             let bytes = served.bytes();
             let front = head(1, 4 + bytes.len() as u32, 0);
+            send(&front, bytes, sink)
+        }
+        ReplyFrame::Text(text) => {
+            let bytes = text.bytes();
+            let front = head(2, 4 + bytes.len() as u32, 0);
             send(&front, bytes, sink)
         }
         ReplyFrame::Code { channel, code } => {

@@ -21,6 +21,10 @@ pub enum Cause {
     Short { asked: u64, got: u64 },
     /// A call failed; how often calls had failed after it.
     Failed { faults: u64 },
+    /// A record ends with this tag, and the right one is another. The right one isn't told: who knew it could forge the record.
+    Tag { found: [u8; 16] },
+    /// The record at this sector of an image has another header than when the image was opened.
+    Changed { sector: u64 },
 }
 
 /// A measured device at the host: whole blocks of 4096 bytes, and where they and their tree stand.

@@ -1,4 +1,4 @@
-use Rattle.session_frames.proofs.Prefixes.{prefix_first, prefix_second_err, appends_then_ok}
+use Rattle.host_traits.proofs.Prefixes.{prefix_first, prefix_second_err, appends_then_ok}
 use Rattle.session_frames.proofs.reply.send.Goals as goal
 
 pub returns-in-Err-clause-err : goal.returns-in-Err-clause-err

@@ -2,7 +2,7 @@ use Rattle.std.proofs.Common.{◌≡◌, List, ℕ, subst, Option, Result, OnOk,
 use Rattle.std.specs.Io.KnownBytes.{Appends}
 use Rattle.host_traits.specs.Streams.{SomePrefix}
 use Rattle.fuse_codec.specs.Sent.{sent}
-use Rattle.session_frames.proofs.Prefixes.{prefix_first, prefix_second_err, appends_then_ok}
+use Rattle.host_traits.proofs.Prefixes.{prefix_first, prefix_second_err, appends_then_ok}
 use Rattle.session_frames.proofs.Replies.{whole}
 use Rattle.session_frames.proofs.reply.write_message.Goals as goal
 
