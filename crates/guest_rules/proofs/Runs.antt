@@ -11,25 +11,27 @@ use Rattle.session_frames.specs.Frames.{Framed}
 use Rattle.session_frames.specs.Replies.{Sent, reply_frame}
 use Rattle.host_traits.proofs.Prefixes.{appends_then}
 use Rattle.verity_path.specs.declared.device.Cause.{Cause}
+use Rattle.instance_image.specs.Sealings.{Sealing}
 use Rattle.guest_rules.specs.Machine.{Setting, State, Moment, moment, Turn, nowhere, request_of}
-use Rattle.guest_rules.specs.Step.{IsFor, most_for, Row, Stepped}
+use Rattle.guest_rules.specs.Step.{IsFor, most_for, seals, Row, Stepped}
 use Rattle.guest_rules.specs.Run.{IsEarly, Run, Runs, Ran, calls_of, out_bytes, log_line, log_bytes, frame_size, frames_of}
 
 -- a request by the work that was done for it
 pub stepped : (g : Setting) (old_state new_state : State) (a b : Told) (frame : Framed) (sent : Sent) (cause : Option Cause) (F : Call → List ℕ → Type 0) (most : ℕ) (P : Trace → Type 0)
     → DidBy F most a b P → ((call : Call) (given : List ℕ) → F call given → IsFor g old_state (request_of frame) call given) → most ≤ most_for g old_state (request_of frame)
-    → ((own : Exchanges) (failed : ℕ) → P (trace_of own failed a b) → Row g nowhere (trace_of own failed a b) (request_of frame) old_state new_state sent cause)
+    → ((run : List Sealing) (own : Exchanges) (failed : ℕ) → P (trace_of own failed a b) → Row g nowhere run (trace_of own failed a b) (request_of frame) old_state new_state sent cause)
     → Stepped g old_state new_state a b frame sent cause
 stepped g old_state new_state a b frame sent cause F most P d for few row = record {
   own = d.own;
   talked = d.talked;
-  step = λ heard. record {
+  step = λ heard run. record {
     talked = d.talked;
     heard = refl;
+    sealings = refl;
     calls = each_so F (IsFor g old_state (request_of frame)) d.own for d.calls;
     few = omega (arith, d.few, few);
     stops = d.stops;
-    row = row (heard_of d.own) (failures_of d.own) d.outcome;
+    row = row run (heard_of d.own) (failures_of d.own) d.outcome;
   };
 }
 
@@ -63,7 +65,11 @@ run_both g old (t ∷ xs) mid ys new r s = (r.0, r.1, r.2, run_both g r.0 xs mid
 
 -- no frame yet
 runs_none : (g : Setting) (state : State) (a : Told) → Runs g state state a a []
-runs_none g state a = record { talked = talked_not a; run = λ heard. ap (moment state a) (sym (append-nil heard)) }
+runs_none g state a = record {
+  talked = talked_not a;
+  sealed = [];
+  run = λ heard run. ap (λ h. moment state a h run) (sym (append-nil heard)) ∙ ap (moment state a (heard ++ [])) (sym (append-nil run));
+}
 
 calls_both : (xs ys : List Turn) → calls_of (xs ++ ys) ≡ calls_of xs ++ calls_of ys
 calls_both xs ys = flat_map-both (λ (t : Turn). t.own) xs ys
@@ -76,9 +82,12 @@ heard_both heard xs ys =
 pub runs_both : (g : Setting) (r s t : State) (a b c : Told) (xs ys : List Turn) → Runs g r s a b xs → Runs g s t b c ys → Runs g r t a c (xs ++ ys)
 runs_both g r s t a b c xs ys p q = record {
   talked = rw (calls_both xs ys) (talked_on a b c (calls_of xs) (calls_of ys) p.talked q.talked);
-  run = λ heard.
-      let later = q.run (heard ++ heard_of (calls_of xs)) in
-      subst (λ z. Run g nowhere (moment r a heard) (xs ++ ys) (moment t c z)) (sym (heard_both heard xs ys)) (run_both g _ xs _ ys _ (p.run heard) later);
+  sealed = p.sealed ++ q.sealed;
+  run = λ heard run.
+      let later = q.run (heard ++ heard_of (calls_of xs)) (run ++ p.sealed) in
+      subst (λ z. Run g nowhere (moment r a heard run) (xs ++ ys) (moment t c z (run ++ (p.sealed ++ q.sealed)))) (sym (heard_both heard xs ys))
+      (subst (λ z. Run g nowhere (moment r a heard run) (xs ++ ys) (moment t c ((heard ++ heard_of (calls_of xs)) ++ heard_of (calls_of ys)) z)) (append_assoc run p.sealed q.sealed)
+      (run_both g _ xs _ ys _ (p.run heard run) later));
 }
 
 -- the turn of a frame that was answered
@@ -90,7 +99,8 @@ pub runs_one : (g : Setting) (s t : State) (b c : Told) (frame : Framed) (sent :
     → IsEarly b.heard → Runs g s t b c (turn_of g s t b c frame sent cause step ∷ [])
 runs_one g s t b c frame sent cause step few = record {
   talked = rw (append-nil step.own) step.talked;
-  run = λ heard. (moment t c (heard ++ heard_of step.own), few, step.step heard, rw (append-nil step.own) refl);
+  sealed = seals g s (request_of frame);
+  run = λ heard run. (moment t c (heard ++ heard_of step.own) (run ++ seals g s (request_of frame)), few, step.step heard run, rw (append-nil step.own) refl);
 }
 
 pub ran_none : (g : Setting) (state : State) (a : Told) (at : ℕ) (out log : Option (List ℕ)) → Ran g state state a a at out out log log []

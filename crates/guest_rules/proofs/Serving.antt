@@ -26,6 +26,7 @@ use Rattle.fuse_codec.specs.Message.{Message, Bad}
 use Rattle.fuse_codec.specs.Reply.{Answer, refused, bytes_out}
 use Rattle.fuse_server.specs.Aims.{Aim, says, makes, reads, aim_of, number_of}
 use Rattle.fuse_server.specs.Rows.{FuseRow, ReadRow, read_bytes, read_blamed, read_no_room, IsForFuse, IsFileRead}
+use Rattle.instance_image.specs.Sealings.{Sealing}
 use Rattle.guest_rules.specs.Machine.{Setting, World, Salted, State, Moment, Turn, ItemRead, Request, message_of, read_of, request_of, IsItem, size_of}
 use Rattle.guest_rules.specs.ItemRow.{IsForItem, ItemRow, no_item, too_large, served, blamed, no_memory}
 use Rattle.guest_rules.specs.MessageRow.{MessageRow}
@@ -50,10 +51,10 @@ slice_is (Some other) content t it r bytes is s =
     ap (λ x. take r.size (drop r.offset x)) same ∙ sym s
 
 -- the item's row of a read
-row_of : (g : Setting) (world : World) (t : Trace) (request : Request) (old new : State) (sent : Sent) (cause : Option Cause) (r : ItemRead) → request ≡ read_of r
-    → Row g world t request old new sent cause → ItemRow g.items world t r sent cause
-row_of g world t request old new sent cause r e row =
-    (subst (λ q. Row g world t q old new sent cause) e row).1
+row_of : (g : Setting) (world : World) (run : List Sealing) (t : Trace) (request : Request) (old new : State) (sent : Sent) (cause : Option Cause) (r : ItemRead) → request ≡ read_of r
+    → Row g world run t request old new sent cause → ItemRow g.items world t r sent cause
+row_of g world run t request old new sent cause r e row =
+    (subst (λ q. Row g world run t q old new sent cause) e row).1
 
 -- the calls of a read are those for its item
 pub calls_of : (g : Setting) (s : State) (request : Request) (r : ItemRead) (it : Device) (call : Call) (given : List ℕ) → request ≡ read_of r → slice_get g.items r.item ≡ Some it
@@ -92,7 +93,7 @@ defined_over g world old turn new h r it content step request at item is w truly
     (calls_of g old.state _ r it call c.0 request at c.1).0 in
     let nothing = not_blamed h it.layout it.measure (size_of it) r.offset r.size content tree item.most (inside_item it) holds (trace old turn new)
     (item_apart g old.state world (heard_of turn.own) r.item it content at is own) truly for none in
-    defined g old.state world (trace old turn new) h r it content at item is own for nothing turn.sent turn.cause (row_of g world (trace old turn new) _ old.state new.state turn.sent turn.cause r request step.row)
+    defined g old.state world (trace old turn new) h r it content at item is own for nothing turn.sent turn.cause (row_of g world old.sealings (trace old turn new) _ old.state new.state turn.sent turn.cause r request step.row)
 
 pub all_served : ReadsAreServed
 all_served g world old turn new h r it content step request at item is w told holds calm =
@@ -108,10 +109,10 @@ all_served g world old turn new h r it content step request at item is w told ho
 -- ---- READs of files
 
 -- the row of a message
-message_row : (g : Setting) (world : World) (t : Trace) (request : Request) (old new : State) (sent : Sent) (cause : Option Cause) (m : Result Message Bad) → request ≡ message_of m
-    → Row g world t request old new sent cause → MessageRow world t m old.fuse new.fuse sent cause
-message_row g world t request old new sent cause m e row =
-    (subst (λ q. Row g world t q old new sent cause) e row).1
+message_row : (g : Setting) (world : World) (run : List Sealing) (t : Trace) (request : Request) (old new : State) (sent : Sent) (cause : Option Cause) (m : Result Message Bad)
+    → request ≡ message_of m → Row g world run t request old new sent cause → MessageRow world t m old.fuse new.fuse sent cause
+message_row g world run t request old new sent cause m e row =
+    (subst (λ q. Row g world run t q old new sent cause) e row).2
 
 -- the calls of a READ are those for its file
 file_calls_of : (g : Setting) (s : State) (request : Request) (m : Result Message Bad) (f : MeasuredFile) (offset size : ℕ) (call : Call) (given : List ℕ) → request ≡ message_of m
@@ -151,7 +152,7 @@ files_served g world old turn new h m n f offset size c step request aim there i
     let none = calm_by h (layout_of f) f.measure f.size offset size c.content tree limit inside holds old.told new.told turn.own step.talked told each calm in
     let a = after h (layout_of f) f.measure f.size offset size c.content tree limit inside holds old.told new.told turn.own step.talked told each in
     let nothing = not_blamed h (layout_of f) f.measure f.size offset size c.content tree limit inside holds (trace old turn new) apart a.3 for none in
-    let row = message_row g world (trace old turn new) _ old.state new.state turn.sent turn.cause m request step.row in
+    let row = message_row g world old.sealings (trace old turn new) _ old.state new.state turn.sent turn.cause m request step.row in
     let answer = read_row m old.state (trace old turn new) row.answer turn.cause f offset size aim row.row in (
       subst (λ (z : Sent). IsReadDefined (number_of m) offset size c.content new.told.scarce z turn.cause) (sym row.sent_is)
           (file_defined f offset size (trace old turn new) c.content tree content_of.size apart nothing (number_of m) row.answer turn.cause answer),

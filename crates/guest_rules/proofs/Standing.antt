@@ -23,16 +23,22 @@ use Rattle.ro_file.specs.Contents.{IsContentOf, IsHeardDescriptor, IsFileHashed 
 use Rattle.ro_file.proofs.Standing.{are_measured, opened_left}
 use Rattle.fuse_codec.specs.Message.{Message, Bad}
 use Rattle.fuse_codec.specs.Reply.{Answer, refused, bytes_out}
-use Rattle.fuse_server.specs.State.{file_at}
 use Rattle.fuse_server.specs.Aims.{Aim, says, makes, reads, aim_of}
 use Rattle.fuse_server.specs.Effects.{Next}
 use Rattle.fuse_server.specs.Rows.{FuseRow, ReadRow, read_bytes, read_blamed, read_no_room}
 use Rattle.fuse_server.proofs.Keeping.{files_stay, aim_file}
-use Rattle.guest_rules.specs.Machine.{Setting, State, World, Salted, nowhere, Moment, Turn, ItemRead, Request, message_of, read_of, unbuilt, request_of, size_of}
+use Rattle.fuse_server.specs.State.{State as Fuse, file_at}
+use Rattle.instance_image.specs.declared.faults.GetFault.{GetFault}
+use Rattle.instance_image.specs.declared.values.Part.{Part}
+use Rattle.instance_image.specs.Sealings.{Sealing}
+use Rattle.instance_image.specs.Access.{GetOutcome}
+use Rattle.instance_image.proofs.Promises.{was_sealed}
+use Rattle.guest_rules.specs.Machine.{Instance, Setting, State, World, Salted, nowhere, Moment, Turn, ItemRead, Request, message_of, read_of, get_of, put_of, unbuilt, request_of, size_of, image_with}
 use Rattle.guest_rules.specs.ItemRow.{ItemRow, no_item, too_large, served, blamed, no_memory}
 use Rattle.guest_rules.specs.MessageRow.{MessageRow, IsSliceOf, IsOfFile}
+use Rattle.guest_rules.specs.RecordRow.{GetRow, PutRow, no_image, got, refused as put_refused, no_entropy, put, IsKnownText}
 use Rattle.guest_rules.specs.Step.{Step, Row}
-use Rattle.guest_rules.specs.Run.{Run, IsItemHashed, IsFileHashed, IsRunHashed, IsFile, IsWorld, AreOpened, RunsStand}
+use Rattle.guest_rules.specs.Run.{Run, IsItemHashed, IsFileHashed, IsRunHashed, IsFile, IsWorld, AreOpened, HeardOnlySealed, AreSealed, RunsStand}
 
 -- ---- what is known of contents, where this was heard
 
@@ -173,6 +179,13 @@ not_bytes : (o : Option Salted) (offset size : ℕ) (e : Errno) → IsSliceOf o 
 not_bytes None offset size e = tt
 not_bytes (Some c) offset size e = tt
 
+-- a text that was got where no sealed form was heard but those that are known
+text_known : (o : Option (List Sealing)) (run : List Sealing) (i : Instance) (parts : List Part) (uuid : List ℕ) (result : Result (List ℕ) GetFault) (t : Trace)
+    → HeardOnlySealed (Some i) o run t.own → GetOutcome (image_with i parts) i.secret uuid result t → IsKnownText o run i uuid result t
+text_known None run i parts uuid result t sealed outcome = tt
+text_known (Some earlier) run i parts uuid (Ok text) t sealed outcome = was_sealed (image_with i parts) i.secret uuid text t (earlier ++ run) outcome sealed
+text_known (Some earlier) run i parts uuid (Err why) t sealed outcome = tt
+
 module _ (g : Setting) (world : World) where
   pub item_in : (t : Trace) (r : ItemRead) (sent : Sent) (cause : Option Cause)
       → ((k : ℕ) (it : Device) (content : List ℕ) → slice_get g.items k ≡ Some it → world.item k ≡ Some content → IsMeasured it.measure content)
@@ -212,27 +225,46 @@ module _ (g : Setting) (world : World) where
         let at = there f offset size refl in
         read_in t at.0 f offset size answer cause same at.1 w row
 
-    row_in : (t : Trace) (request : Request) (new : State) (sent : Sent) (cause : Option Cause) → t.heard ≡ t.own → Known g s world t.heard
-        → Row g nowhere t request s new sent cause → Row g world t request s new sent cause
-    row_in t (message_of m) new sent cause same w row = (
+    get_in : (run : List Sealing) (t : Trace) (uuid : List ℕ) (sent : Sent) (cause : Option Cause) → HeardOnlySealed g.image world.sealed run t.own
+        → GetRow g.image s.parts nowhere run t uuid sent cause → GetRow g.image s.parts world run t uuid sent cause
+    get_in run t uuid sent cause sealed (no_image none quiet) = no_image none quiet
+    get_in run t uuid sent cause sealed (got i result there outcome known) =
+        got i result there outcome (text_known world.sealed run i s.parts uuid result t (subst (λ (o : Option Instance). HeardOnlySealed o world.sealed run t.own) there sealed) outcome)
+
+    row_in : (run : List Sealing) (t : Trace) (request : Request) (new : State) (sent : Sent) (cause : Option Cause) → t.heard ≡ t.own → Known g s world t.heard
+        → HeardOnlySealed g.image world.sealed run t.own → Row g nowhere run t request s new sent cause → Row g world run t request s new sent cause
+    row_in run t (message_of m) new sent cause same w sealed row = (
       row.0,
+      row.1,
       record {
-        answer = row.1.answer;
-        sent_is = row.1.sent_is;
-        row = row.1.row;
-        slice = aim_in t (aim_of s.fuse m) row.1.answer cause same (λ f offset size is. aim_file s.fuse m f offset size is) w row.1.row;
-        next = row.1.next;
+        answer = row.2.answer;
+        sent_is = row.2.sent_is;
+        row = row.2.row;
+        slice = aim_in t (aim_of s.fuse m) row.2.answer cause same (λ f offset size is. aim_file s.fuse m f offset size is) w row.2.row;
+        next = row.2.next;
       },
     )
-    row_in t (read_of r) new sent cause same w row = (row.0, item_in t r sent cause w.items (known_item_apart t w) row.1)
-    row_in t unbuilt new sent cause same w row = absurd row
+    row_in run t (read_of r) new sent cause same w sealed row = (row.0, item_in t r sent cause w.items (known_item_apart t w) row.1)
+    row_in run t (get_of uuid) new sent cause same w sealed row = (row.0, get_in run t uuid sent cause sealed row.1)
+    row_in run t (put_of uuid text) new sent cause same w sealed row = row
+    row_in run t unbuilt new sent cause same w sealed row = absurd row
+
+-- a put changes no name, no handle and no file
+pub put_keeps : (image : Option Instance) (t : Trace) (uuid text : List ℕ) (old new : State) (sent : Sent) (cause : Option Cause) → PutRow image t uuid text old new sent cause
+    → new.fuse ≡ old.fuse
+put_keeps image t uuid text old new sent cause (no_image none quiet same) = ap (λ (s : State). s.fuse) same
+put_keeps image t uuid text old new sent cause (put_refused i why there fits quiet same) = ap (λ (s : State). s.fuse) same
+put_keeps image t uuid text old new sent cause (no_entropy i part there fits few quiet same) = ap (λ (s : State). s.fuse) same
+put_keeps image t uuid text old new sent cause (put i part result there fits some outcome is) = ap (λ (s : State). s.fuse) is
 
 -- no request changes the files
-pub files_kept : (g : Setting) (world : World) (t : Trace) (request : Request) (old new : State) (sent : Sent) (cause : Option Cause) → Row g world t request old new sent cause
-    → new.fuse.files ≡ old.fuse.files
-files_kept g world t (message_of m) old new sent cause row = files_stay old.fuse m row.1.answer new.fuse row.1.next
-files_kept g world t (read_of r) old new sent cause row = ap (λ (s : State). s.fuse.files) row.0
-files_kept g world t unbuilt old new sent cause row = absurd row
+pub files_kept : (g : Setting) (world : World) (run : List Sealing) (t : Trace) (request : Request) (old new : State) (sent : Sent) (cause : Option Cause)
+    → Row g world run t request old new sent cause → new.fuse.files ≡ old.fuse.files
+files_kept g world run t (message_of m) old new sent cause row = files_stay old.fuse m row.2.answer new.fuse row.2.next
+files_kept g world run t (read_of r) old new sent cause row = ap (λ (s : State). s.fuse.files) row.0
+files_kept g world run t (get_of uuid) old new sent cause row = ap (λ (s : State). s.fuse.files) row.0
+files_kept g world run t (put_of uuid text) old new sent cause row = ap (λ (f : Fuse). f.files) (put_keeps g.image t uuid text old new sent cause row)
+files_kept g world run t unbuilt old new sent cause row = absurd row
 
 -- what is hashed in one state is hashed in another of the same files
 back : (g : Setting) (s t : State) (world : World) (heard : Exchanges) → t.fuse.files ≡ s.fuse.files → (x : List ℕ) → IsRunHashed g t world heard x → IsRunHashed g s world heard x
@@ -269,27 +301,24 @@ module _ (g : Setting) (world : World) where
 
 module _ (g : Setting) (world : World) where
   -- a step by itself
-  one_in : (old : Moment) (t : Turn) (new : Moment) → Known g old.state world (heard_of t.own) → Step g nowhere old t new → Step g world old t new
-  one_in old t new w r = record {
+  one_in : (old : Moment) (t : Turn) (new : Moment) → Known g old.state world (heard_of t.own) → HeardOnlySealed g.image world.sealed old.sealings (heard_of t.own)
+      → Step g nowhere old t new → Step g world old t new
+  one_in old t new w sealed r = record {
     talked = r.talked;
     heard = r.heard;
+    sealings = r.sealings;
     calls = r.calls;
     few = r.few;
     stops = r.stops;
-    row = row_in g world old.state _ (request_of t.frame) new.state t.sent t.cause refl w r.row;
+    row = row_in g world old.state old.sealings _ (request_of t.frame) new.state t.sent t.cause refl w sealed r.row;
   }
 
-  pub step_in : (old : Moment) (t : Turn) (new : Moment) → AreOpened old.state old.heard → IsWorld g old.state world new.heard → Step g nowhere old t new → Step g world old t new
-  step_in old t new opened w r =
-      let known = known_by g old.state world old.heard new.heard (heard_of t.own) r.heard opened w in
-      one_in old t new (known_last g old.state world old.heard (heard_of t.own) (subst (λ (h : Exchanges). Known g old.state world h) r.heard known)) r
-
   -- that of a read of an item speaks of no file
-  item_row : (t : Trace) (s new : State) (request : Request) (r : ItemRead) (sent : Sent) (cause : Option Cause) → request ≡ read_of r → IsWorld g s world t.heard
-      → Row g nowhere t request s new sent cause → Row g world t request s new sent cause
-  item_row t s new request r sent cause is w row =
-      let at = subst (λ q. Row g nowhere t q s new sent cause) is row in
-      subst (λ q. Row g world t q s new sent cause) (sym is) (at.0, item_in g world t r sent cause w.items (λ k it content there known. item_apart g s world t.heard k it content there known w) at.1)
+  item_row : (run : List Sealing) (t : Trace) (s new : State) (request : Request) (r : ItemRead) (sent : Sent) (cause : Option Cause) → request ≡ read_of r → IsWorld g s world t.heard
+      → Row g nowhere run t request s new sent cause → Row g world run t request s new sent cause
+  item_row run t s new request r sent cause is w row =
+      let at = subst (λ q. Row g nowhere run t q s new sent cause) is row in
+      subst (λ q. Row g world run t q s new sent cause) (sym is) (at.0, item_in g world t r sent cause w.items (λ k it content there known. item_apart g s world t.heard k it content there known w) at.1)
 
   pub read_step_in : (old : Moment) (t : Turn) (new : Moment) (r : ItemRead) → request_of t.frame ≡ read_of r → IsWorld g old.state world new.heard → Step g nowhere old t new → Step g world old t new
   read_step_in old t new r is w step =
@@ -297,28 +326,27 @@ module _ (g : Setting) (world : World) where
       record {
         talked = step.talked;
         heard = step.heard;
+        sealings = step.sealings;
         calls = step.calls;
         few = step.few;
         stops = step.stops;
-        row = item_row _ old.state new.state (request_of t.frame) r t.sent t.cause is own step.row;
+        row = item_row old.sealings _ old.state new.state (request_of t.frame) r t.sent t.cause is own step.row;
       }
 
-  run_in : (old : Moment) (turns : List Turn) (new : Moment) → Known g old.state world new.heard → Run g nowhere old turns new → Run g world old turns new
-  run_in old [] new w e = e
-  run_in old (t ∷ turns) new w r =
+  run_in : (old : Moment) (turns : List Turn) (new : Moment) → Known g old.state world new.heard → (run : Run g nowhere old turns new) → AreSealed g world old turns new run
+      → Run g world old turns new
+  run_in old [] new w e sealed = e
+  run_in old (t ∷ turns) new w r sealed =
       let rest = run_heard g nowhere r.0 turns new r.3 in
       let w_mid : Known g old.state world r.0.heard = known_first g old.state world r.0.heard rest.0 (rw rest.1 at w) in
       let w_own : Known g old.state world (heard_of t.own) = known_last g old.state world old.heard (heard_of t.own) (subst (λ (h : Exchanges). Known g old.state world h) r.2.heard w_mid) in (
         r.0,
         r.1,
-        one_in old t r.0 w_own r.2,
-        run_in r.0 turns new (known_at g old.state r.0.state world new.heard (files_kept g nowhere _ (request_of t.frame) old.state r.0.state t.sent t.cause r.2.row) w) r.3,
+        one_in old t r.0 w_own sealed.0 r.2,
+        run_in r.0 turns new (known_at g old.state r.0.state world new.heard (files_kept g nowhere old.sealings _ (request_of t.frame) old.state r.0.state t.sent t.cause r.2.row) w) r.3 sealed.1,
       )
 
-  run_more : (old : Moment) (turns : List Turn) (new : Moment) → AreOpened old.state old.heard → IsWorld g old.state world new.heard → Run g nowhere old turns new → Run g world old turns new
-  run_more old turns new opened w r =
-      let more = run_heard g nowhere old turns new r in
-      run_in old turns new (known_by g old.state world old.heard new.heard more.0 more.1 opened w) r
-
 pub runs_stand : RunsStand
-runs_stand g world old turns new opened w r = run_more g world old turns new opened w r
+runs_stand g world old turns new opened w r sealed =
+    let more = run_heard g nowhere old turns new r in
+    run_in g world old turns new (known_by g old.state world old.heard new.heard more.0 more.1 opened w) r sealed

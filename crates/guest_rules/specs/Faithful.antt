@@ -12,7 +12,13 @@ use Rattle.ro_file.specs.Files.{MeasuredFile, layout_of}
 use Rattle.fuse_codec.specs.Message.{Message, Bad}
 use Rattle.fuse_codec.specs.Reply.{refused, bytes_out}
 use Rattle.fuse_server.specs.Aims.{Aim, says, makes, reads, aim_of, number_of}
-use Rattle.guest_rules.specs.Machine.{Setting, State, World, Salted, Moment, Turn, ItemRead, Request, message_of, request_of, read_of, unbuilt, IsItem, size_of}
+use Rattle.instance_image.specs.declared.faults.GetFault.{GetFault}
+use Rattle.instance_image.specs.declared.faults.PutFault.{PutFault}
+use Rattle.instance_image.specs.declared.values.Part.{Part}
+use Rattle.instance_image.specs.Records.{fits_in}
+use Rattle.instance_image.specs.Promised.{RecordIsGot, PutIsKept}
+use Rattle.guest_rules.specs.Machine.{Instance, Setting, State, World, Salted, Moment, Turn, ItemRead, Request, message_of, request_of, read_of, get_of, put_of, unbuilt, IsItem, size_of, image_with}
+use Rattle.guest_rules.specs.RecordRow.{get_sent, get_cause, put_code, put_cause, nonce_of}
 use Rattle.guest_rules.specs.Step.{Step}
 use Rattle.guest_rules.specs.Run.{IsWorld, AreOpened, IsFile}
 
@@ -74,7 +80,34 @@ MessageIsServed (Ok (says a)) unique old new sent cause = Unit {0}
 MessageIsServed (Ok (makes a)) unique old new sent cause = Unit {0}
 MessageIsServed (Err e) unique old new sent cause = Unit {0}
 
+-- A get came to what `RecordIsGot` says: where the host held the record of the UUID, and no call failed or it is honest, to its
+-- text, or to want of memory.
+pub record IsGot (i : Instance) (parts : List Part) (uuid : List ℕ) (old new : Told) (sent : Sent) (cause : Option Cause) : Type 0 where
+  pub result : Result (List ℕ) GetFault
+  pub sent_is : sent ≡ get_sent result
+  pub cause_is : cause ≡ get_cause result
+  pub got : RecordIsGot (image_with i parts) i.secret uuid old new result
+
+abbrev pub GetIsServed : Option Instance → List Part → List ℕ → Told → Told → Sent → Option Cause → Type 0
+GetIsServed None parts uuid old new sent cause = Unit {0}
+GetIsServed (Some i) parts uuid old new sent cause = IsGot i parts uuid old new sent cause
+
+-- A put of a text that fits, while entropy is left, came to what `PutIsKept` says: what the host holds after it; and where it held
+-- the partition's sectors, which may be written, and no call failed or it is honest, the text was put, or memory was wanting.
+pub record IsKept (i : Instance) (s : State) (uuid text : List ℕ) (old new : Told) (sent : Sent) (cause : Option Cause) : Type 0 where
+  pub result : Result (Unit {0}) PutFault
+  pub sent_is : sent ≡ sent_code 3 (put_code result)
+  pub cause_is : cause ≡ put_cause result
+  pub kept : PutIsKept (image_with i s.parts) i.secret uuid (nonce_of s) text old new result
+
+abbrev pub PutIsServed : Option Instance → State → List ℕ → List ℕ → Told → Told → Sent → Option Cause → Type 0
+PutIsServed None s uuid text old new sent cause = Unit {0}
+PutIsServed (Some i) s uuid text old new sent cause =
+    (part : Part) → fits_in s.parts uuid (length text) ≡ Ok part → 12 ≤ length s.entropy → IsKept i s uuid text old new sent cause
+
 abbrev pub RequestIsServed : Setting → State → Request → Told → Told → Sent → Option Cause → Type 0
 RequestIsServed g s (message_of m) old new sent cause = MessageIsServed (aim_of s.fuse m) (number_of m) old new sent cause
 RequestIsServed g s (read_of r) old new sent cause = ItemIsServed g old new r sent cause
+RequestIsServed g s (get_of uuid) old new sent cause = GetIsServed g.image s.parts uuid old new sent cause
+RequestIsServed g s (put_of uuid text) old new sent cause = PutIsServed g.image s uuid text old new sent cause
 RequestIsServed g s unbuilt old new sent cause = ⊥

@@ -17,7 +17,8 @@ use Rattle.ro_file.specs.Files.{MeasuredFile}
 use Rattle.ro_file.specs.Opening.{WasOpened}
 use Rattle.ro_file.specs.Contents.{descriptor_of, IsFileMeasured, IsHeardDescriptor}
 use Rattle.fuse_server.specs.State.{file_at}
-use Rattle.guest_rules.specs.Machine.{Setting, State, World, nowhere, Salted, moment, Moment, Turn}
+use Rattle.instance_image.specs.Sealings.{Sealing, OnlySealed}
+use Rattle.guest_rules.specs.Machine.{Instance, Setting, State, World, nowhere, Salted, moment, Moment, Turn}
 use Rattle.guest_rules.specs.Step.{Step}
 
 -- fewer than 2 ^ 30 bytes were heard, where that is told
@@ -66,10 +67,23 @@ pub record IsWorld (g : Setting) (s : State) (world : World) (heard : Exchanges)
 abbrev pub AreOpened : State → Exchanges → Type 0
 AreOpened s heard = (n : ℕ) (f : MeasuredFile) → IsFile s n f → WasOpened f.file f.digest heard f
 
+-- Where all that was sealed before the run is known, no sealed form was heard for a request but those of these sealings and of
+-- those that the run had made before.
+abbrev pub HeardOnlySealed : Option Instance → Option (List Sealing) → List Sealing → Exchanges → Type 0
+HeardOnlySealed None sealed run own = Unit {0}
+HeardOnlySealed (Some i) None run own = Unit {0}
+HeardOnlySealed (Some i) (Some earlier) run own = OnlySealed i.salt i.secret (earlier ++ run) own
+
+-- The premise on seals: it is so of each turn. That nobody forges a sealed form is what the cipher is for.
+abbrev pub AreSealed : (g : Setting) (world : World) (old : Moment) (turns : List Turn) (new : Moment) → Run g nowhere old turns new → Type 0
+AreSealed g world old [] new run = Unit {0}
+AreSealed g world old (turn ∷ turns) new run = HeardOnlySealed g.image world.sealed old.sealings (heard_of turn.own) × AreSealed g world run.0 turns new run.3
+
 -- A run in the world without contents is a run in each world that meets the premises, where the files were opened before it.
 abbrev pub RunsStand : Type 0
 RunsStand = (g : Setting) (world : World) (old : Moment) (turns : List Turn) (new : Moment)
-    → AreOpened old.state old.heard → IsWorld g old.state world new.heard → Run g nowhere old turns new → Run g world old turns new
+    → AreOpened old.state old.heard → IsWorld g old.state world new.heard → (run : Run g nowhere old turns new) → AreSealed g world old turns new run
+    → Run g world old turns new
 
 -- ---- texts
 
@@ -112,10 +126,13 @@ log_bytes at (t ∷ turns) = log_line at t.cause ++ log_bytes (at + frame_size t
 abbrev pub calls_of : List Turn → List Made
 calls_of turns = flat_map (λ t. t.own) turns
 
--- frames were answered in these turns: the turns are a run, and their calls are those that were made, and no other was
+-- frames were answered in these turns: the turns are a run, in which these texts were sealed, and their calls are those that were
+-- made, and no other was
 pub record Runs (g : Setting) (old_state new_state : State) (old new : Told) (turns : List Turn) : Type 0 where
   pub talked : Talked old new (calls_of turns)
-  pub run : (heard : Exchanges) → Run g nowhere (moment old_state old heard) turns (moment new_state new (heard ++ heard_of (calls_of turns)))
+  pub sealed : List Sealing
+  pub run : (heard : Exchanges) (run : List Sealing)
+      → Run g nowhere (moment old_state old heard run) turns (moment new_state new (heard ++ heard_of (calls_of turns)) (run ++ sealed))
 
 -- the same from an offset on, and the replies and the lines of the log were written and nothing else
 pub record Ran (g : Setting) (old_state new_state : State) (old new : Told) (at : ℕ) (out_old out_new log_old log_new : Option (List ℕ)) (turns : List Turn) : Type 0 where

@@ -10,14 +10,18 @@ use Rattle.verity_path.specs.declared.device.Device.{Device}
 use Rattle.verity_path.specs.Range.{most_answers}
 use Rattle.fuse_server.specs.Aims.{aim_of}
 use Rattle.fuse_server.specs.Rows.{IsForFuse, most_for_fuse}
-use Rattle.guest_rules.specs.Machine.{Setting, State, ItemRead, Request, message_of, read_of, unbuilt, request_of, Moment, moment, Turn, World, nowhere, size_of}
+use Rattle.instance_image.specs.Sealings.{Sealing}
+use Rattle.guest_rules.specs.Machine.{Setting, State, ItemRead, Request, message_of, read_of, get_of, put_of, unbuilt, request_of, Moment, moment, Turn, World, nowhere, size_of}
 use Rattle.guest_rules.specs.ItemRow.{IsForItem, ItemRow}
 use Rattle.guest_rules.specs.MessageRow.{MessageRow}
+use Rattle.guest_rules.specs.RecordRow.{GetRow, PutRow, IsForGet, IsForPut, put_sealings}
 
 -- the calls that a request may make, in this state, and what each hands over
 abbrev pub IsFor : Setting → State → Request → Call → List ℕ → Type 0
 IsFor g s (message_of m) call given = reads (IsForFuse (aim_of s.fuse m)) call given
 IsFor g s (read_of r) call given = (it : Device) × (slice_get g.items r.item ≡ Some it) × reads (IsForItem it r) call given
+IsFor g s (get_of uuid) call given = IsForGet g.image s.parts uuid call given
+IsFor g s (put_of uuid text) call given = IsForPut g.image s uuid text call given
 IsFor g s unbuilt call given = ⊥
 
 -- the most calls that a request makes, failed ones counted
@@ -28,13 +32,26 @@ answers_of (Some it) r = most_answers it.measure (size_of it) r.offset r.size
 abbrev pub most_for : Setting → State → Request → ℕ
 most_for g s (message_of m) = most_for_fuse (aim_of s.fuse m)
 most_for g s (read_of r) = answers_of (slice_get g.items r.item) r
+most_for g s (get_of uuid) = 1
+most_for g s (put_of uuid text) = 1
 most_for g s unbuilt = 0
 
--- The reply, its cause and the new state of a request. A message takes no entropy; a read changes nothing.
-abbrev pub Row : Setting → World → Trace → Request → State → State → Sent → Option Cause → Type 0
-Row g world t (message_of m) old new sent cause = (new.entropy ≡ old.entropy) × MessageRow world t m old.fuse new.fuse sent cause
-Row g world t (read_of r) old new sent cause = (new ≡ old) × ItemRow g.items world t r sent cause
-Row g world t unbuilt old new sent cause = ⊥
+-- what a request seals: a put alone seals, and one text at most
+abbrev pub seals : Setting → State → Request → List Sealing
+seals g s (message_of m) = []
+seals g s (read_of r) = []
+seals g s (get_of uuid) = []
+seals g s (put_of uuid text) = put_sealings g.image s uuid text
+seals g s unbuilt = []
+
+-- The reply, its cause and the new state of a request, in a world and behind what this run has sealed. A message takes no entropy
+-- and changes no partition; a read or a get changes nothing; a put changes no name and no handle.
+abbrev pub Row : Setting → World → List Sealing → Trace → Request → State → State → Sent → Option Cause → Type 0
+Row g world run t (message_of m) old new sent cause = (new.entropy ≡ old.entropy) × (new.parts ≡ old.parts) × MessageRow world t m old.fuse new.fuse sent cause
+Row g world run t (read_of r) old new sent cause = (new ≡ old) × ItemRow g.items world t r sent cause
+Row g world run t (get_of uuid) old new sent cause = (new ≡ old) × GetRow g.image old.parts world run t uuid sent cause
+Row g world run t (put_of uuid text) old new sent cause = PutRow g.image t uuid text old new sent cause
+Row g world run t unbuilt old new sent cause = ⊥
 
 -- the answers to a turn's own calls, and how many of its calls failed: what was heard before says nothing of its reply
 abbrev pub trace : Moment → Turn → Moment → Trace
@@ -45,14 +62,16 @@ trace old turn new = trace_of (heard_of turn.own) (failures_of turn.own) old.tol
 pub record Step (g : Setting) (world : World) (old : Moment) (turn : Turn) (new : Moment) : Type 0 where
   pub talked : Talked old.told new.told turn.own
   pub heard : new.heard ≡ old.heard ++ heard_of turn.own
+  pub sealings : new.sealings ≡ old.sealings ++ seals g old.state (request_of turn.frame)
   pub calls : Each (IsFor g old.state (request_of turn.frame)) turn.own
   pub few : length turn.own ≤ most_for g old.state (request_of turn.frame)
   pub stops : StopsAtFailure turn.own
-  pub row : Row g world (trace old turn new) (request_of turn.frame) old.state new.state turn.sent turn.cause
+  pub row : Row g world old.sealings (trace old turn new) (request_of turn.frame) old.state new.state turn.sent turn.cause
 
--- a request was answered by its own calls, whatever was heard before
+-- a request was answered by its own calls, whatever was heard and sealed before
 pub record Stepped (g : Setting) (old_state new_state : State) (old new : Told) (frame : Framed) (sent : Sent) (cause : Option Cause) : Type 0 where
   pub own : List Made
   pub talked : Talked old new own
-  pub step : (heard : Exchanges)
-      → Step g nowhere (moment old_state old heard) (record { frame = frame; own = own; sent = sent; cause = cause }) (moment new_state new (heard ++ heard_of own))
+  pub step : (heard : Exchanges) (run : List Sealing)
+      → Step g nowhere (moment old_state old heard run) (record { frame = frame; own = own; sent = sent; cause = cause })
+      (moment new_state new (heard ++ heard_of own) (run ++ seals g old_state (request_of frame)))
