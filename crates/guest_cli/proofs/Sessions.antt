@@ -40,14 +40,6 @@ early_by (Some heard) few = few heard refl
 pub is_early : (told : Told) (n : ℕ) → IsHeardSize told.heard n → n < 1073741824 → IsEarly told.heard
 is_early told n is lt = early_by told.heard (few_heard told n is lt)
 
-first_false : (a b : Bool) → (a || b) ≡ false → a ≡ false
-first_false true b e = absurd cc
-first_false false b e = refl
-
--- a frame that is served is of channel 0 or 1
-pub built : (channel : ℕ) (payload : List ℕ) → is_unbuilt channel payload ≡ false → channel < 2
-built channel payload e = let f = first_false (nat_lt 1 channel) _ e in grind (arith, nat_tests, f)
-
 -- a frame whose line was written, and its reply, or a part of it
 pub turn_written : {E : Type 0} (g : Setting) (r s : State) (a b : Told) (at : ℕ) (out_a out_b log_a log_b : Option (List ℕ)) (channel : ℕ) (payload : List ℕ) (sent : Sent) (cause : Option Cause) (result : Result (Unit {0}) E)
     → Stepped g r s a b (framed channel payload) sent cause → Appends log_a log_b (log_line at cause)

@@ -27,6 +27,7 @@ use Rattle.fuse_server.specs.State.{State as Fuse}
 use Rattle.fuse_server.specs.Aims.{Aim, says, makes, reads as reads_file, aim_of, number_of}
 use Rattle.fuse_server.specs.Effects.{Next}
 use Rattle.fuse_server.specs.Rows.{FuseRow, ReadRow, read_bytes, read_blamed, read_no_room, IsForFuse, most_for_fuse, FuseIsRight, answer_by}
+use Rattle.instance_image.specs.declared.values.Part.{Part}
 use Rattle.guest_rules.specs.Machine.{Setting, State, nowhere, item_read, size_of, message_of, request_of, is_unbuilt}
 use Rattle.guest_rules.specs.ItemRow.{IsForItem, no_item, too_large, served, blamed, no_memory}
 use Rattle.guest_rules.specs.MessageRow.{IsOfFile}
@@ -40,14 +41,14 @@ use Rattle.guest_cli.specs.Works.{answer_to_read, message_frame}
 
 pub absent_step : (g : Setting) (state : State) (a : Told) (payload : List ℕ) → length g.items ≤ (item_read payload).item → Stepped g state state a a (framed 1 payload) (sent_code 1 2) None
 absent_step g state a payload absent = stepped g state state a a _ _ _ (reads (λ call. ⊥)) 0 (λ t. (t.failed ≡ 0) × (t.own ≡ [])) (did_none _ 0 a _ (refl, refl)) (λ call given none. absurd none.0) (omega arith)
-    (λ own failed none. (refl, no_item absent none.0 none.1))
+    (λ run own failed none. (refl, no_item absent none.0 none.1))
 
 pub absent_served : (g : Setting) (a : Told) (payload : List ℕ) (sent : Sent) (c : Option Cause) → length g.items ≤ (item_read payload).item → ItemIsServed g a a (item_read payload) sent c
 absent_served g a payload sent c absent it at = absurd (omega (arith, absent, slice_get_within g.items (item_read payload).item it at))
 
 pub large_step : (g : Setting) (state : State) (a : Told) (payload : List ℕ) → (item_read payload).item < length g.items → 131072 < (item_read payload).size → Stepped g state state a a (framed 1 payload) (sent_code 1 22) None
 large_step g state a payload there large = stepped g state state a a _ _ _ (reads (λ call. ⊥)) 0 (λ t. (t.failed ≡ 0) × (t.own ≡ [])) (did_none _ 0 a _ (refl, refl)) (λ call given none. absurd none.0) (omega arith)
-    (λ own failed none. (refl, too_large there large none.0 none.1))
+    (λ run own failed none. (refl, too_large there large none.0 none.1))
 
 pub large_served : (g : Setting) (a : Told) (payload : List ℕ) → 131072 < (item_read payload).size → ItemIsServed g a a (item_read payload) (sent_code 1 22) None
 large_served g a payload large it at = record { right = λ h content calm held holds tree limit. (held, λ size. over_limit large) }
@@ -64,15 +65,15 @@ module _ (g : Setting) (a b : Told) (payload : List ℕ) (it : Device) (there : 
 
   pub read_step : (state : State) (bytes : List ℕ) (r : Result (Unit {0}) WalkFault) → Work bytes r → Stepped g state state a b (framed 1 payload) (sent_if (answer_to_read r).reply bytes) (answer_to_read r).cause
   read_step state bytes (Ok u) d = stepped g state state a b (framed 1 payload) _ _ _ _ _ d (λ call given for. (it, at, for)) (few state)
-      (λ own failed cut. (refl, served it bytes at fits cut.0 cut.2 cut.3 cut.1))
+      (λ run own failed cut. (refl, served it bytes at fits cut.0 cut.2 cut.3 cut.1))
   read_step state bytes (Err (fault.Mismatch x)) d = stepped g state state a b (framed 1 payload) _ _ _ _ _ d (λ call given for. (it, at, for)) (few state)
-      (λ own failed blame. (refl, blamed it (cause.Mismatch x) at fits blame.0 blame.1 blame.2))
+      (λ run own failed blame. (refl, blamed it (cause.Mismatch x) at fits blame.0 blame.1 blame.2))
   read_step state bytes (Err (fault.Short asked got)) d = stepped g state state a b (framed 1 payload) _ _ _ _ _ d (λ call given for. (it, at, for)) (few state)
-      (λ own failed blame. (refl, blamed it (cause.Short asked got) at fits blame.0 blame.1 blame.2))
+      (λ run own failed blame. (refl, blamed it (cause.Short asked got) at fits blame.0 blame.1 blame.2))
   read_step state bytes (Err (fault.Failed faults)) d = stepped g state state a b (framed 1 payload) _ _ _ _ _ d (λ call given for. (it, at, for)) (few state)
-      (λ own failed blame. (refl, blamed it (cause.Failed faults) at fits blame.0 blame.1 blame.2))
+      (λ run own failed blame. (refl, blamed it (cause.Failed faults) at fits blame.0 blame.1 blame.2))
   read_step state bytes (Err fault.Memory) d = stepped g state state a b (framed 1 payload) _ _ _ _ _ d (λ call given for. (it, at, for)) (few state)
-      (λ own failed none. (refl, no_memory it at fits none.0 none.1 none.2))
+      (λ run own failed none. (refl, no_memory it at fits none.0 none.1 none.2))
 
   -- what a read that ended so is answered, where its bytes are the content's or there was no memory
   defined : (bytes content : List ℕ) (r : Result (Unit {0}) WalkFault) → (r ≡ Err fault.Memory → b.scarce ≡ true)
@@ -123,10 +124,10 @@ module _ (s : Fuse) (a b : Told) (payload : List ℕ) (reply : Option FuseReply)
   request_is : request_of (framed 0 payload) ≡ message_of (decoded payload)
   request_is = rw built refl
 
-  pub message_step : (g : Setting) (t : Fuse) (entropy : List ℕ) → Next s (decoded payload) (answer_by reply bytes) t
-      → Stepped g (record { fuse = s; entropy = entropy }) (record { fuse = t; entropy = entropy }) a b (framed 0 payload) (sent_if (message_frame reply) bytes) c
-  message_step g t entropy next = stepped g _ _ a b (framed 0 payload) _ _ _ _ _ did (λ call given for. rw request_is for) (rw request_is (omega arith))
-      (λ own failed row. rw request_is (refl, record { answer = answer_by reply bytes; sent_is = message_sent_is (decoded payload) reply bytes number; row = row; slice = of_none (aim_of s (decoded payload)) (answer_by reply bytes); next = next }))
+  pub message_step : (g : Setting) (t : Fuse) (entropy : List ℕ) (parts : List Part) → Next s (decoded payload) (answer_by reply bytes) t
+      → Stepped g (record { fuse = s; entropy = entropy; parts = parts }) (record { fuse = t; entropy = entropy; parts = parts }) a b (framed 0 payload) (sent_if (message_frame reply) bytes) c
+  message_step g t entropy parts next = stepped g _ _ a b (framed 0 payload) _ _ _ _ _ did (λ call given for. rw request_is for) (rw request_is (omega arith))
+      (λ run own failed row. rw request_is (refl, refl, record { answer = answer_by reply bytes; sent_is = message_sent_is (decoded payload) reply bytes number; row = row; slice = of_none (aim_of s (decoded payload)) (answer_by reply bytes); next = next }))
 
   read_defined : (f : MeasuredFile) (offset size : ℕ) (t : Trace) (content : List ℕ) (answer : Answer) (why : Option Cause) (unique : ℕ) → ReadRow f offset size t answer why
       → (answer ≡ bytes_out (take size (drop offset content))) ⊎ (answer ≡ refused Enomem) → IsReadDefined unique offset size content t.scarce (message_sent unique answer) why
@@ -154,6 +155,6 @@ module _ (s : Fuse) (a b : Told) (payload : List ℕ) (reply : Option FuseReply)
       subst (λ (z : Sent). MessageIsServed (aim_of s (decoded payload)) (number_of (decoded payload)) a b z c) (sym (message_sent_is (decoded payload) reply bytes number))
       (by_aim (aim_of s (decoded payload)) did.outcome right)
 
-  pub message_served : (g : Setting) (entropy : List ℕ) → FuseIsRight (aim_of s (decoded payload)) a b (answer_by reply bytes)
-      → RequestIsServed g (record { fuse = s; entropy = entropy }) (request_of (framed 0 payload)) a b (sent_if (message_frame reply) bytes) c
-  message_served g entropy right = rw request_is (served_by right)
+  pub message_served : (g : Setting) (entropy : List ℕ) (parts : List Part) → FuseIsRight (aim_of s (decoded payload)) a b (answer_by reply bytes)
+      → RequestIsServed g (record { fuse = s; entropy = entropy; parts = parts }) (request_of (framed 0 payload)) a b (sent_if (message_frame reply) bytes) c
+  message_served g entropy parts right = rw request_is (served_by right)

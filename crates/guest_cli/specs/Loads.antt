@@ -4,8 +4,6 @@ use Rattle.host_traits.specs.declared.calls.TapeItem.{TapeItem}
 use Rattle.host_traits.specs.Folders.{Files, Errand, load_of, store_of}
 use Rattle.host_traits.specs.Held.{Held}
 use Rattle.host_traits.specs.Told.{Told, Made, Rose}
-use Rattle.verity_path.specs.declared.device.Device.{Device}
-use Rattle.ro_file.specs.Files.{MeasuredFile}
 use Rattle.host_tape.specs.Played.{Played, unplayed, tape_told}
 use Rattle.host_tape.specs.Tape.{IsTape, Breaks, tape_bytes}
 use Rattle.host_rec.specs.Recorded.{Recorded as Recorder}
@@ -24,7 +22,7 @@ use Rattle.guest_cli.specs.declared.session.SessionEnd.{SessionEnd}
 use Rattle.guest_cli.specs.declared.status.Form.TheVariants.{Plan as PlanForm}
 use Rattle.guest_cli.specs.declared.status.Status.{Status}
 use Rattle.guest_cli.specs.declared.status.Status.TheVariants.{Done, BootFault, PlanFault, FileFault, TapeFault, StoreFault, TooMuch, Memory, Unbuilt}
-use Rattle.guest_cli.specs.Booted.{BootsOver, Unbooted, setting_of, first_state}
+use Rattle.guest_cli.specs.Booted.{Opened, BootsOver, Unbooted, setting_of, first_state}
 use Rattle.guest_cli.specs.Planned.{first_unbuilt}
 use Rattle.guest_cli.specs.Session.{Streams, IsSession}
 use Rattle.guest_cli.specs.Outside.{IsLoadedBehind, PlanRead, PlanBroken, PlanUnbuilt, Quiet, status_of}
@@ -101,22 +99,21 @@ InputsFail files plan tape entropy other = ⊥
 
 -- the lines were opened over a tape, and the session ended with this status
 pub record IsPlayed (plan : Known) (tape : Played) (entropy : List ℕ) (old new : Streams) (status : Status) : Type 0 where
-  pub items : List Device
-  pub opened : List MeasuredFile
+  pub opened : Opened
   pub booted : List Made
   pub mid : Told
-  pub boots : BootsOver plan.lines (tape_told tape) mid booted items opened
+  pub boots : BootsOver plan (tape_told tape) mid booted opened
   pub finish : Told
   pub ended : Result (Unit {0}) SessionEnd
   pub status_is : status ≡ status_of ended
   pub session : IsSession
-      (Replayed (setting_of items) (first_state plan.lines opened entropy) tape.records booted mid finish) finish old new ended
+      (Replayed (setting_of plan opened) (first_state plan opened entropy) tape.records booted mid finish) finish old new ended
 
 -- a line was not opened
 pub record IsUnplayed (plan : Known) (tape : Played) (old new : Streams) (status : Status) : Type 0 where
   pub fault : Fault
   pub status_is : status ≡ BootFault fault
-  pub fails : Unbooted plan.lines plan.numbers (tape_told tape) fault
+  pub fails : Unbooted plan (tape_told tape) fault
   pub quiet : Quiet old new
 
 abbrev pub PlayOutcome : Known → Played → List ℕ → Streams → Streams → Status → Type 0
@@ -145,13 +142,12 @@ ServedFails files plan store entropy other = ⊥
 
 -- the lines were opened over a host that held this, and the session ended so; behind the recorder is the host after it
 pub record IsServed (plan : Known) (held : Held) (entropy : List ℕ) (old new : Streams) (ended : Result (Unit {0}) SessionEnd) (r : Recorder Mem) (finish : Told) : Type 0 where
-  pub items : List Device
-  pub opened : List MeasuredFile
+  pub opened : Opened
   pub booted : List Made
   pub mid : Told
-  pub boots : BootsOver plan.lines (before held) mid booted items opened
+  pub boots : BootsOver plan (before held) mid booted opened
   pub session : IsSession
-      (Recorded (setting_of items) (first_state plan.lines opened entropy) booted mid r.kept.calls r.kept.items finish)
+      (Recorded (setting_of plan opened) (first_state plan opened entropy) booted mid r.kept.calls r.kept.items finish)
       finish old new ended
   pub held_is : finish.held ≡ Some (mem_held r.host)
 
@@ -159,7 +155,7 @@ pub record IsServed (plan : Known) (held : Held) (entropy : List ℕ) (old new :
 pub record IsUnserved (plan : Known) (held : Held) (old new : Streams) (status : Status) : Type 0 where
   pub fault : Fault
   pub status_is : status ≡ BootFault fault
-  pub fails : Unbooted plan.lines plan.numbers (before held) fault
+  pub fails : Unbooted plan (before held) fault
   pub quiet : Quiet old new
 
 abbrev pub SatOutcome : Known → Held → List ℕ → Streams → Streams → Result (Recorder Mem) Status → Type 0

@@ -9,7 +9,6 @@ use Rattle.host_traits.specs.Told.{Told, Talked, Made, taken, heard_of}
 use Rattle.host_tape.specs.Tape.{tape_bytes}
 use Rattle.host_rec.specs.Recorded.{calls_in, failures}
 use Rattle.text_lines.specs.declared.kinds.PlanKind.{PlanKind}
-use Rattle.verity_path.specs.declared.device.Device.{Device}
 use Rattle.guest_plan.specs.declared.store.StoreLine.{StoreLine}
 use Rattle.guest_plan.specs.Stores.{store_of as store_list_of}
 use Rattle.guest_files.specs.declared.load.Refusal.{Refusal}
@@ -18,14 +17,14 @@ use Rattle.guest_files.specs.Files.{Passes}
 use Rattle.guest_files.specs.Stocking.{Stock, Stocked, StockFails, unstocked}
 use Rattle.guest_files.specs.Keeping.{Parcel, AreStored, StoringStops, kept_of}
 use Rattle.guest_boot.specs.declared.faults.BootFault.{BootFault as Fault}
-use Rattle.ro_file.specs.Files.{MeasuredFile}
+use Rattle.instance_image.specs.Sealings.{Sealing}
 use Rattle.guest_rules.specs.Machine.{Setting, State, World, Turn, nowhere, moment}
-use Rattle.guest_rules.specs.Run.{Run, IsWorld, calls_of}
+use Rattle.guest_rules.specs.Run.{Run, IsWorld, AreSealed, calls_of}
 use Rattle.guest_cli.specs.declared.session.SessionEnd.{SessionEnd}
 use Rattle.guest_cli.specs.declared.status.Form.TheVariants.{Command, Plan}
 use Rattle.guest_cli.specs.declared.status.Status.{Status}
 use Rattle.guest_cli.specs.declared.status.Status.TheVariants.{BootFault, Done, Usage, PlanFault, FileFault, TapeFault, StoreFault, TooMuch, Memory, Unbuilt}
-use Rattle.guest_cli.specs.Booted.{BootsOver, Unbooted, setting_of, first_state}
+use Rattle.guest_cli.specs.Booted.{Opened, BootsOver, Unbooted, setting_of, first_state}
 use Rattle.guest_cli.specs.Session.{Streams, IsSession}
 use Rattle.guest_cli.specs.Outside.{IsLoadedBehind, Quiet, PlanRead, PlanBroken, PlanUnbuilt, status_of}
 
@@ -36,15 +35,18 @@ before held = record { faults = 0; last_failed = None; heard = Some []; made = S
 -- The turns of a session over a host that is recorded, behind a boot that made these calls, after which the recorder told `mid`:
 -- the turns' calls are all that were made from there, failed ones too. All calls, boot's before the turns', are these, each with its
 -- record. Each was answered by what the host then held, or failed where that could not serve it. The turns are a run of the machine
--- from the state after boot, in the world without contents, and so in each world that meets the premises.
+-- from the state after boot, in the world without contents, and so in each world that meets the premises; in the run these texts
+-- were sealed.
 pub record Recorded (g : Setting) (first : State) (booted : List Made) (mid : Told) (calls : List Call) (records : List TapeItem) (finish : Told) (turns : List Turn) : Type 0 where
   pub talked : Talked mid finish (calls_of turns)
   pub made : taken None (booted ++ calls_of turns) ≡ calls_in calls records
   pub faults : finish.faults ≡ min (failures records) (2 ^ 64 - 1)
   pub state : State
-  pub plain : Run g nowhere (moment first mid (heard_of booted)) turns (moment state finish (heard_of booted ++ heard_of (calls_of turns)))
+  pub sealed : List Sealing
+  pub plain : Run g nowhere (moment first mid (heard_of booted) []) turns (moment state finish (heard_of booted ++ heard_of (calls_of turns)) sealed)
   pub run : (world : World) → IsWorld g first world (heard_of booted ++ heard_of (calls_of turns))
-      → Run g world (moment first mid (heard_of booted)) turns (moment state finish (heard_of booted ++ heard_of (calls_of turns)))
+      → AreSealed g world (moment first mid (heard_of booted) []) turns (moment state finish (heard_of booted ++ heard_of (calls_of turns)) sealed) plain
+      → Run g world (moment first mid (heard_of booted) []) turns (moment state finish (heard_of booted ++ heard_of (calls_of turns)) sealed)
 
 -- the store list was read, behind so many bytes of other files
 pub record ListRead (files : Option Files) (name : List ℕ) (before : ℕ) : Type 0 where
@@ -102,16 +104,15 @@ pub record SatOver (files : Option Files) (plan store entropy : List ℕ) (old n
   pub made : HostMade files plan store
   pub bytes : List ℕ
   pub bytes_there : IsLoadedBehind made.stock.loaded files entropy bytes
-  pub items : List Device
-  pub opened : List MeasuredFile
+  pub opened : Opened
   pub booted : List Made
   pub mid : Told
-  pub boots : BootsOver made.planned.plan.lines (before made.stock.held) mid booted items opened
+  pub boots : BootsOver made.planned.plan (before made.stock.held) mid booted opened
   pub calls : List Call
   pub records : List TapeItem
   pub finish : Told
   pub session : IsSession
-      (Recorded (setting_of items) (first_state made.planned.plan.lines opened bytes) booted mid calls records finish)
+      (Recorded (setting_of made.planned.plan opened) (first_state made.planned.plan opened bytes) booted mid calls records finish)
       finish old new ended
 
 -- a line of the plan was not opened over the host
@@ -119,7 +120,7 @@ pub record UnbootedOver (files : Option Files) (plan store entropy : List ℕ) (
   pub made : HostMade files plan store
   pub bytes : List ℕ
   pub bytes_there : IsLoadedBehind made.stock.loaded files entropy bytes
-  pub fails : Unbooted made.planned.plan.lines made.planned.plan.numbers (before made.stock.held) fault
+  pub fails : Unbooted made.planned.plan (before made.stock.held) fault
 
 -- what is stored after the session: the tape of all calls, a record for each, and then what the list's lines keep of what is held
 pub record IsParcels {files : Option Files} {plan store entropy : List ℕ} {old new : Streams} (s : SatOver files plan store entropy old new (Ok tt)) (out : List ℕ) (parcels : List Parcel) : Type 0 where

@@ -7,13 +7,15 @@ ghost use Rattle.guest_rules.specs.Machine.{AreItems, item_read, request_of, is_
 ghost use Rattle.guest_rules.specs.Step.{Stepped};
 ghost use Rattle.guest_rules.specs.Faithful.{RequestIsServed};
 ghost use Rattle.guest_cli.specs.Turns.{framed};
-ghost use Rattle.guest_cli.specs.Works.{answer_to_read, message_frame};
+ghost use Rattle.guest_cli.specs.Works.{answer_to_read, message_frame, instance_of, parts_of};
 
 use crate::entropy::Entropy;
+use crate::records::{Records, answer_get, answer_put};
 use fuse_codec::FuseReply;
 use fuse_server::Server;
 use host_traits::Host;
 use session_frames::ReplyFrame;
+use std::alloc::Global;
 use std::marker::Model;
 use verity_path::{Buffers, Cause, Device, Served, WalkFault, read_range};
 
@@ -22,14 +24,15 @@ use verity_path::{Buffers, Cause, Device, Served, WalkFault, read_range};
 pub struct Engine {
     items: Vec<Device>,
     server: Server,
-    entropy: Entropy,
+    pub(crate) records: Option<Records>,
+    pub(crate) entropy: Entropy,
     served: Served,
-    buf: Buffers,
+    pub(crate) buf: Buffers,
 }
 
 impl Model for Engine {
     ghost use Rattle.guest_rules.specs.Machine.{AreItems};
-    ghost use Rattle.guest_cli.specs.Works.{Works};
+    ghost use Rattle.guest_cli.specs.Works.{Works, instance_of, parts_of};
 
     ghost Value = { Works };
 
@@ -39,8 +42,8 @@ impl Model for Engine {
     ghost coded = { Prim.hlevel (codes, table.code) };
 
     ghost view = { λ e. record {
-      setting = record { items = e.items.items };
-      state = record { fuse = e.server; entropy = e.entropy };
+      setting = record { items = e.items.items; image = instance_of e.records };
+      state = record { fuse = e.server; entropy = e.entropy; parts = parts_of e.records };
       served = e.served;
     } };
 
@@ -119,24 +122,26 @@ fn message_frame(reply: Option<FuseReply>) -> Option<ReplyFrame>
 }
 
 impl Engine {
-    // An engine of these devices and this server.
+    // An engine of these devices, this server and these records.
     pub(crate) fn new(
         items: Vec<Device>,
         server: Server,
+        records: Option<Records>,
         entropy: Entropy,
         served: Served,
         buf: Buffers,
     ) -> Engine
         requires { AreItems items.items }
         ensures { result ≡ record {
-          setting = record { items = items.items };
-          state = record { fuse = server; entropy = entropy };
+          setting = record { items = items.items; image = instance_of records };
+          state = record { fuse = server; entropy = entropy; parts = parts_of records };
           served = served;
         } }
     {
         Engine {
             items,
             server,
+            records,
             entropy,
             served,
             buf,
@@ -205,11 +210,14 @@ fn answer_message<H: Host>(engine: &mut Engine, host: &mut H, message: &[u8]) ->
     }
 }
 
-/// The work of one frame that is served, of channel 0 or 1: the reply, where there is one, and why it is a failure. A message of FUSE is answered
-/// as `fuse_server` has it. A read of a measured item is answered with code 2 where there is no such item, else with 22 where its
-/// size is above 131,072, else with the bytes, or with 5 or 12. Over a host that holds the item as it was measured, or the file of
-/// a READ, a read in which no call fails is answered with the bytes, or want of memory, and so is each read over an honest one.
+/// The work of one frame that is served: the reply, where there is one, and why it is a failure. A message of FUSE is answered as
+/// `fuse_server` has it. A read of a measured item is answered with code 2 where there is no such item, else with 22 where its size
+/// is above 131,072, else with the bytes, or with 5 or 12. A get of a record is answered with 2 where there is none, else with its
+/// text, or with 5 or 12; a put with 2, 27 or 200, and else with 0, 5 or 12. Over a host that holds the item as it was measured, the
+/// file of a READ, or the record, a read or a get in which no call fails is answered with the bytes or the text, or want of memory,
+/// and so is each one over an honest host; a put likewise where the record may be written.
 pub fn answer_frame<H: Host>(
+    alloc: Global,
     engine: &mut Engine,
     host: &mut H,
     channel: u8,
@@ -225,8 +233,10 @@ pub fn answer_frame<H: Host>(
         (request_of (framed channel payload.now)) (H.told host.old) (H.told host.new)
         (sent_if result.reply engine.new.served) result.cause }
 {
-    if channel == 0 {
-        return answer_message(engine, host, payload);
+    match channel {
+        0 => answer_message(engine, host, payload),
+        1 => answer_read(engine, host, payload),
+        2 => answer_get(alloc, engine, host, payload),
+        _ => answer_put(alloc, engine, host, payload),
     }
-    answer_read(engine, host, payload)
 }

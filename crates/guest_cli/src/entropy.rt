@@ -1,5 +1,5 @@
 // Entropy for sealing.
-ghost use Rattle.std.specs.Prelude.{◌≡◌, ℕ, List};
+ghost use Rattle.std.specs.Prelude.{◌≡◌, ◌<◌, ◌≤◌, ℕ, List, take, drop, length, None, IfSome};
 
 use std::marker::Model;
 
@@ -26,5 +26,23 @@ impl Entropy {
         ensures { result ≡ bytes.items }
     {
         Entropy { bytes, at: 0 }
+    }
+
+    /// The next 12 bytes, which are gone then; None where fewer are left, and these stay.
+    pub fn nonce(&mut self) -> Option<[u8; 12]>
+        ensures few { result ≡ None → length self.old < 12 }
+        ensures kept { result ≡ None → self.new ≡ self.old }
+        ensures next { IfSome result (λ n. n ≡ take 12 self.old) }
+        ensures enough { IfSome result (λ n. 12 ≤ length self.old) }
+        ensures left { IfSome result (λ n. self.new ≡ drop 12 self.old) }
+    {
+        let left = &self.bytes[self.at..];
+        if left.len() < 12 {
+            return None;
+        }
+        let mut nonce = [0; 12];
+        nonce.copy_from_slice(&left[..12]);
+        self.at += 12;
+        Some(nonce)
     }
 }

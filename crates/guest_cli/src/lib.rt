@@ -6,6 +6,7 @@ pub mod engine;
 pub mod entropy;
 pub mod log;
 mod outside;
+mod records;
 mod replaying;
 mod serving;
 pub mod session;

@@ -112,6 +112,7 @@ fn play<S: Source, K: Sink, L: Sink>(
         Err(fault) => return boot_status(fault),
     };
     let ended = session(
+        alloc,
         &mut machine.engine,
         &mut machine.splitter,
         &mut tape,

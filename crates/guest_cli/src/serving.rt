@@ -121,6 +121,7 @@ fn sit<S: Source, K: Sink, L: Sink>(
         Err(fault) => return Err(boot_status(fault)),
     };
     let ended = session(
+        alloc,
         &mut machine.engine,
         &mut machine.splitter,
         &mut host,

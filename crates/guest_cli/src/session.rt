@@ -14,6 +14,7 @@ use crate::engine::{Engine, answer_frame};
 use crate::log::cause_line;
 use host_traits::{Failed, Host, Sink, Source};
 use session_frames::{Next, ReplyFrame, Splitter, write_frame};
+use std::alloc::Global;
 use verity_path::{Cause, Served};
 
 /// The most bytes that a session reads or hears.
@@ -30,8 +31,7 @@ pub enum SessionEnd {
     BadFrame { at: u64 },
     /// More than 2^30 bytes came, or at least so many were heard before a frame was answered.
     TooMuch,
-    /// At this offset begins a frame that isn't served yet: of channel 2 or 3, or of channel 0 with the operation OPENDIR, READDIR
-    /// or RELEASEDIR.
+    /// At this offset begins a frame that isn't served yet: of channel 0 with the operation OPENDIR, READDIR or RELEASEDIR.
     Unbuilt { at: u64 },
 }
 
@@ -52,7 +52,7 @@ fn is_unbuilt(channel: u8, payload: &[u8]) -> bool
     let mut opcode = [0; 4];
     opcode.copy_from_slice(&payload[4..8]);
     let opcode = u32::from_le_bytes(opcode);
-    channel > 1 || (channel == 0 && (27 <= opcode && opcode <= 29))
+    channel == 0 && (27 <= opcode && opcode <= 29)
 }
 
 // Writes the line of a cause, where there is one.
@@ -92,6 +92,7 @@ fn write_reply<K: Sink>(
 
 // Answers one frame: its line of the log first, then its reply.
 fn turn<H: Host, K: Sink, L: Sink>(
+    alloc: Global,
     engine: &mut Engine,
     host: &mut H,
     channel: u8,
@@ -112,7 +113,7 @@ fn turn<H: Host, K: Sink, L: Sink>(
     ensures cause { OnErr result
         (Rose (K.faults out.old) (K.faults out.new) ⊎ Rose (L.faults log.old) (L.faults log.new)) }
 {
-    let answer = answer_frame(engine, host, channel, payload);
+    let answer = answer_frame(alloc, engine, host, channel, payload);
     match write_line(at, &answer.cause, log) {
         Ok(()) => {}
         Err(failed) => return Err(failed),
@@ -122,6 +123,7 @@ fn turn<H: Host, K: Sink, L: Sink>(
 
 // Answers each whole frame at the front.
 fn answer_held<H: Host, K: Sink, L: Sink>(
+    alloc: Global,
     engine: &mut Engine,
     host: &mut H,
     splitter: &mut Splitter,
@@ -150,7 +152,7 @@ fn answer_held<H: Host, K: Sink, L: Sink>(
         if is_unbuilt(channel, payload) {
             return Err(Stop::Unbuilt);
         }
-        match turn(engine, host, channel, payload, splitter.at(), out, log) {
+        match turn(alloc, engine, host, channel, payload, splitter.at(), out, log) {
             Ok(()) => {}
             Err(_) => return Err(Stop::Write),
         }
@@ -160,6 +162,7 @@ fn answer_held<H: Host, K: Sink, L: Sink>(
 
 // Answers each frame that is whole with the next piece.
 fn answer_piece<H: Host, K: Sink, L: Sink>(
+    alloc: Global,
     engine: &mut Engine,
     host: &mut H,
     splitter: &mut Splitter,
@@ -182,7 +185,7 @@ fn answer_piece<H: Host, K: Sink, L: Sink>(
     while left.len() > 0 {
         let taken = splitter.feed(left);
         left = &left[taken..];
-        match answer_held(engine, host, splitter, out, log) {
+        match answer_held(alloc, engine, host, splitter, out, log) {
             Ok(()) => {}
             Err(stop) => return Err(stop),
         }
@@ -204,8 +207,10 @@ fn ended(stop: Stop, at: u64) -> SessionEnd
 
 /// Reads a stream and answers each of its frames, in order, the line of the log before the reply. It takes at least one byte
 /// of the stream a turn, and ends when the input does, at a frame's border, or before that for the reason that it gives.
-/// Replies and log don't depend on the pieces in which the stream comes. It does work linear in the stream, and takes no memory.
+/// Replies and log don't depend on the pieces in which the stream comes. It does work linear in the stream, and takes memory for
+/// records alone.
 pub fn session<H: Host, S: Source, K: Sink, L: Sink>(
+    alloc: Global,
     engine: &mut Engine,
     splitter: &mut Splitter,
     host: &mut H,
@@ -242,7 +247,7 @@ pub fn session<H: Host, S: Source, K: Sink, L: Sink>(
             return Err(SessionEnd::BadFrame { at });
         }
         let within = (LIMIT - total).min(got as u64) as usize;
-        match answer_piece(engine, host, splitter, &room[..within], out, log) {
+        match answer_piece(alloc, engine, host, splitter, &room[..within], out, log) {
             Ok(()) => {}
             Err(stop) => return Err(ended(stop, splitter.at())),
         }

@@ -313,26 +313,6 @@ module _ (g : Setting) (world : World) where
     row = row_in g world old.state old.sealings _ (request_of t.frame) new.state t.sent t.cause refl w sealed r.row;
   }
 
-  -- that of a read of an item speaks of no file
-  item_row : (run : List Sealing) (t : Trace) (s new : State) (request : Request) (r : ItemRead) (sent : Sent) (cause : Option Cause) → request ≡ read_of r → IsWorld g s world t.heard
-      → Row g nowhere run t request s new sent cause → Row g world run t request s new sent cause
-  item_row run t s new request r sent cause is w row =
-      let at = subst (λ q. Row g nowhere run t q s new sent cause) is row in
-      subst (λ q. Row g world run t q s new sent cause) (sym is) (at.0, item_in g world t r sent cause w.items (λ k it content there known. item_apart g s world t.heard k it content there known w) at.1)
-
-  pub read_step_in : (old : Moment) (t : Turn) (new : Moment) (r : ItemRead) → request_of t.frame ≡ read_of r → IsWorld g old.state world new.heard → Step g nowhere old t new → Step g world old t new
-  read_step_in old t new r is w step =
-      let own : IsWorld g old.state world (heard_of t.own) = world_last g old.state world old.heard (heard_of t.own) (subst (λ (h : Exchanges). IsWorld g old.state world h) step.heard w) in
-      record {
-        talked = step.talked;
-        heard = step.heard;
-        sealings = step.sealings;
-        calls = step.calls;
-        few = step.few;
-        stops = step.stops;
-        row = item_row old.sealings _ old.state new.state (request_of t.frame) r t.sent t.cause is own step.row;
-      }
-
   run_in : (old : Moment) (turns : List Turn) (new : Moment) → Known g old.state world new.heard → (run : Run g nowhere old turns new) → AreSealed g world old turns new run
       → Run g world old turns new
   run_in old [] new w e sealed = e

@@ -1,5 +1,5 @@
 -- One request of a run.
-use Rattle.std.specs.Prelude.{◌≡◌, ℕ, ◌≤◌, List, ◌++◌, length, slice_get, Option, Some, None}
+use Rattle.std.specs.Prelude.{◌≡◌, ℕ, ◌≤◌, List, [], ◌++◌, length, slice_get, Option, Some, None}
 use Rattle.host_traits.specs.declared.calls.Call.{Call}
 use Rattle.host_traits.specs.Told.{Told, Talked, Made, Exchanges, heard_of, failures_of}
 use Rattle.host_traits.specs.Did.{Trace, trace_of, Each, reads, StopsAtFailure}
