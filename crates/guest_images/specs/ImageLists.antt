@@ -96,8 +96,12 @@ continue_image k line =
     else if bytes_eq (first_field line) (codes "part") then (image_part_of line >>= λ p. add_image_part k p)
     else Err kinds.Word
 
+abbrev pub next_of_image : ImageSaid → List ℕ → Result ImageSaid PlanKind
+next_of_image k line = if is_some k.salt then continue_image k line else begin_image k line
+
+-- whatever the line's number is
 abbrev pub image_step : ImageSaid → ℕ → List ℕ → Result ImageSaid PlanKind
-image_step k n line = if is_some k.salt then continue_image k line else begin_image k line
+image_step k n line = next_of_image k line
 
 -- a list that ends before its salt's line lacks it, and the header is the line that needs it
 abbrev pub lacking_salt : ImageSaid → Option ℕ

@@ -3,7 +3,7 @@ ghost use Rattle.std.specs.Prelude.{◌≡◌, ℕ, List, MatchResult, IfOk, Ok,
 ghost use Rattle.std.specs.List.{list_any};
 ghost use Rattle.guid_crc.specs.Guids.{Guid};
 ghost use Rattle.text_lines.specs.Fields.{Fails};
-ghost use Rattle.guest_images.specs.ImageLists.{IsImageList, TellsImage, add_image_part, begin_image, continue_image, image_list_of, image_step, same_uuid, unsaid};
+ghost use Rattle.guest_images.specs.ImageLists.{IsImageList, TellsImage, add_image_part, begin_image, continue_image, image_list_of, image_step, next_of_image, same_uuid, unsaid};
 ghost use Rattle.guest_images.specs.ImageDrafts.{drafted};
 
 use crate::image_lines::{image_part_of, image_salt_of};
@@ -86,10 +86,10 @@ fn continue_image(draft: &mut Draft, line: &[u8]) -> Result<(), LineFault>
     Err(LineFault::Kind(PlanKind::Word))
 }
 
-fn take_line(draft: &mut Draft, number: u64, line: &[u8]) -> Result<(), LineFault>
+fn take_line(draft: &mut Draft, line: &[u8]) -> Result<(), LineFault>
     ensures { MatchResult result
-        (λ _. image_step (drafted draft.old) number line.now ≡ Ok (drafted draft.new))
-        (λ e. Fails e (image_step (drafted draft.old) number line.now)) }
+        (λ _. next_of_image (drafted draft.old) line.now ≡ Ok (drafted draft.new))
+        (λ e. Fails e (next_of_image (drafted draft.old) line.now)) }
 {
     if draft.salt.is_some() {
         continue_image(draft, line)
@@ -134,8 +134,8 @@ impl ImageReader {
 impl LineReader for ImageReader {
     ghost step = { image_step };
 
-    fn take(&mut self, _alloc: Global, number: u64, line: &[u8]) -> Result<(), LineFault> {
-        take_line(&mut self.draft, number, line)
+    fn take(&mut self, _alloc: Global, _number: u64, line: &[u8]) -> Result<(), LineFault> {
+        take_line(&mut self.draft, line)
     }
 }
 
