@@ -1,5 +1,5 @@
 -- What contracts see of the engine, and the answer to a read.
-use Rattle.std.specs.Prelude.{ℕ, List, Option, Result, Ok, Err, Some, None}
+use Rattle.std.specs.Prelude.{ℕ, List, [], Option, Result, Ok, Err, Some, None}
 use Rattle.session_frames.specs.declared.reply.ReplyFrame.{ReplyFrame}
 use Rattle.session_frames.specs.declared.reply.ReplyFrame.TheVariants.{Fuse, Bytes, Text, Code}
 use Rattle.verity_path.specs.declared.device.Cause.TheVariants as cause

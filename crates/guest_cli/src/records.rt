@@ -57,14 +57,18 @@ fn get_answer(done: Result<OpenedText, GetFault>) -> FrameAnswer
         Err(GetFault::Failed { faults }) => code(2, 5, Some(Cause::Failed { faults })),
         Err(GetFault::Short { asked, got }) => code(2, 5, Some(Cause::Short { asked, got })),
         Err(GetFault::Changed { sector }) => code(2, 5, Some(Cause::Changed { sector })),
-        Err(GetFault::Tag(tag)) => code(2, 5, Some(Cause::Tag { found: tag.found })),
+        Err(GetFault::Tag(tag)) => {
+            let found = tag.found;
+            code(2, 5, Some(Cause::Tag { found }))
+        }
         Err(GetFault::Memory) => code(2, 12, None),
     }
 }
 
 // The answer to a put that ended so.
 fn put_answer(done: Result<(), PutFault>) -> FrameAnswer
-    ensures { result ≡ record { reply = Some (ReplyFrame.Code 3 (put_code done)); cause = put_cause done } }
+    ensures { result ≡ record
+        { reply = Some (ReplyFrame.Code 3 (put_code done)); cause = put_cause done } }
 {
     match done {
         Ok(()) => code(3, 0, None),

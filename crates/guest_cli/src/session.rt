@@ -132,8 +132,8 @@ fn answer_held<H: Host, K: Sink, L: Sink>(
 ) -> Result<(), Stop>
     requires { splitter.old.at + length splitter.old.held < 2 ^ 64 }
     ensures setting { engine.new.setting ≡ engine.old.setting }
-    ensures held { HeldOutcome engine.old.setting engine.old.state engine.new.state (H.told host.old)
-        (H.told host.new) (K.holds out.old) (K.holds out.new) (L.holds log.old) (L.holds log.new)
+    ensures held { HeldOutcome engine.old.setting engine.old.state engine.new.state
+        (H.told host.old) (H.told host.new) (K.holds out.old) (K.holds out.new) (L.holds log.old) (L.holds log.new)
         splitter.old splitter.new result }
     ensures out { K.faults out.old ≤ K.faults out.new }
     ensures log { L.faults log.old ≤ L.faults log.new }
@@ -152,7 +152,16 @@ fn answer_held<H: Host, K: Sink, L: Sink>(
         if is_unbuilt(channel, payload) {
             return Err(Stop::Unbuilt);
         }
-        match turn(alloc, engine, host, channel, payload, splitter.at(), out, log) {
+        match turn(
+            alloc,
+            engine,
+            host,
+            channel,
+            payload,
+            splitter.at(),
+            out,
+            log,
+        ) {
             Ok(()) => {}
             Err(_) => return Err(Stop::Write),
         }

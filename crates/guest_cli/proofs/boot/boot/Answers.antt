@@ -35,3 +35,15 @@ returns-clause-booted g c =
       stops = d.stops;
       outcome = rw c.new.ensures (d.outcome.0, record { opened = _; opens = record { tables = d.outcome.1; boots = d.outcome.2 }; setting = rw c.records_of-records.ensures refl; state = rw (c.in-Ok-plant_lines.ensures, c.deref.ensures.value, c.records_of-records.ensures) refl });
     }
+
+pub returns-in-Err-plant_lines-clause-booted : goal.returns-in-Err-plant_lines-clause-booted
+returns-in-Err-plant_lines-clause-booted g c =
+    let d = c.in-Ok-open_lines.ensures.booted in
+    record {
+      own = d.own;
+      talked = d.talked;
+      calls = d.calls;
+      few = d.few;
+      stops = d.stops;
+      outcome = rw c.no_memory-in-Err-plant_lines.ensures (inl (refl, d.outcome.0, inr (_, record { tables = d.outcome.1; boots = d.outcome.2 })));
+    }

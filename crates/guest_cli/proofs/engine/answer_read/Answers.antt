@@ -1,6 +1,7 @@
 use Rattle.std.proofs.Common.{◌≡◌, ◌∙◌, ◌<◌, Some, ap, sym, length, arith}
 use Rattle.std.specs.Prelude.{slice_get}
 use Rattle.std.proofs.lemmas.Option.{slice_get-get_or}
+use Rattle.guest_cli.specs.Works.{instance_of}
 use Rattle.guest_cli.proofs.Steps.{absent_step, absent_served, large_step, large_served, read_step, read_served}
 use Rattle.guest_cli.proofs.engine.answer_read.Goals as goal
 
@@ -41,11 +42,11 @@ returns-clause-step g c =
     (read_step _ _ _ c.args.payload.now c.index-it.result.now (omega (arith, item, there)) (rw item at at) (omega (arith, size)) _ _ c.read_range-done.result (rw (offset, size) at c.read_range-done.ensures.did))
 
 pub returns-then-question-len-clause-served : goal.returns-then-question-len-clause-served
-returns-then-question-len-clause-served g c = rw (c.code.ensures, ← c.engine.view_is) (absent_served _ _ c.args.payload.now _ _ (omega (arith, c.parse-question.ensures.item)))
+returns-then-question-len-clause-served g c = rw (c.code.ensures, ← c.engine.view_is) (absent_served (record { items = c.engine.inside.items.items; image = instance_of c.engine.inside.records }) _ c.args.payload.now _ _ (omega (arith, c.parse-question.ensures.item)))
 
 pub returns-then-question-gt131072-clause-served : goal.returns-then-question-gt131072-clause-served
 returns-then-question-gt131072-clause-served g c = rw (c.code-then-question-gt131072.ensures, ← c.engine.view_is)
-    (large_served _ _ c.args.payload.now (omega (arith, c.parse-question.ensures.size)))
+    (large_served (record { items = c.engine.inside.items.items; image = instance_of c.engine.inside.records }) _ c.args.payload.now (omega (arith, c.parse-question.ensures.size)))
 
 pub returns-clause-served : goal.returns-clause-served
 returns-clause-served g c =
@@ -55,5 +56,5 @@ returns-clause-served g c =
     let size = c.parse-question.ensures.size in
     let offset = c.parse-question.ensures.offset in
     rw (c.read_answer.ensures, ← c.engine.view_is)
-    (read_served _ _ _ c.args.payload.now c.index-it.result.now (omega (arith, item, there)) (rw item at at) (omega (arith, size)) _ c.read_range-done.result (rw (offset, size) at c.read_range-done.ensures.did)
+    (read_served (record { items = c.engine.inside.items.items; image = instance_of c.engine.inside.records }) _ _ c.args.payload.now c.index-it.result.now (omega (arith, item, there)) (rw item at at) (omega (arith, size)) _ c.read_range-done.result (rw (offset, size) at c.read_range-done.ensures.did)
     (rw (offset, size) at c.read_range-done.ensures.held))

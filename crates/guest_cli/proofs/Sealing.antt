@@ -1,14 +1,17 @@
 -- The rows of a get and of a put, from the work that was done for it.
-use Rattle.std.proofs.Common.{◌≡◌, ℕ, ◌<◌, ◌≤◌, List, [], length, take, drop, refl, sym, subst, Ok, Err, Option, Some, None, Result, arith}
+use Rattle.std.proofs.Common.{◌≡◌, ◌∙◌, ℕ, ◌-◌, ◌<◌, ◌≤◌, List, [], length, take, drop, if◌then◌else◌, Bool, true, false, refl, sym, ap, subst, Ok, Err, Option, Some, None, Result, arith}
+use Rattle.std.proofs.Math.Seq.{take-length}
+use Rattle.std.proofs.lemmas.List.{length-drop}
 use Rattle.host_traits.specs.Told.{Told}
-use Rattle.host_traits.specs.Did.{Did, DidBy, reads}
+use Rattle.host_traits.specs.Did.{Did, DidBy, Trace, reads}
 use Rattle.host_traits.proofs.Doing.{did_none}
 use Rattle.session_frames.specs.Replies.{Sent, sent_if, sent_code}
 use Rattle.instance_image.specs.declared.faults.GetFault.{GetFault}
 use Rattle.instance_image.specs.declared.faults.GetFault.TheVariants as gets
 use Rattle.instance_image.specs.declared.faults.PutFault.{PutFault}
 use Rattle.instance_image.specs.declared.values.Part.{Part}
-use Rattle.instance_image.specs.Records.{fits, fits_in}
+use Rattle.instance_image.specs.declared.faults.PutFault.TheVariants as puts
+use Rattle.instance_image.specs.Records.{Kept, fits, fits_in, fitting, is_large, room_of, find_part}
 use Rattle.instance_image.specs.Access.{GetOutcome, IsGetCall, PutOutcome, IsPutting}
 use Rattle.instance_image.specs.Promised.{RecordIsGot, PutIsKept}
 use Rattle.guest_rules.specs.Machine.{Instance, Setting, State, image_with}
@@ -25,10 +28,44 @@ pub get_sent_is : (r : Result (List ℕ) GetFault) (served : List ℕ) → sent_
 get_sent_is (Ok text) served = refl
 get_sent_is (Err gets.NoRecord) served = refl
 get_sent_is (Err (gets.Failed faults)) served = refl
-get_sent_is (Err (gets.Short asked got)) served = refl
+get_sent_is (Err (gets.Short asked came)) served = refl
 get_sent_is (Err (gets.Changed sector)) served = refl
 get_sent_is (Err (gets.Tag tag)) served = refl
 get_sent_is (Err gets.Memory) served = refl
+
+-- what follows the first 16 bytes
+pub rest_is : (xs : List ℕ) → take (length xs - 16) (drop 16 xs) ≡ drop 16 xs
+rest_is xs = ap (λ n. take n (drop 16 xs)) (sym (length-drop 16 xs)) ∙ take-length (drop 16 xs)
+
+-- ---- whether a text fits
+
+pub fits_err : (r : Result Part PutFault) (why : PutFault) → fits r ≡ Err why → r ≡ Err why
+fits_err (Ok p) why e = absurd cc
+fits_err (Err x) why e = let same : x ≡ why = cc in ap (λ (w : PutFault). Err w) same
+
+pub fits_ok : (r : Result Part PutFault) (u : Unit {0}) → fits r ≡ Ok u → (p : Part) × (r ≡ Ok p)
+fits_ok (Ok p) u e = (p, refl)
+fits_ok (Err x) u e = absurd cc
+
+large_cause : (n : ℕ) (p : Part) (b : Bool) (why : PutFault) → (if b then Err (puts.TooLarge n (room_of p)) else Ok p) ≡ Err why → put_cause (Err why) ≡ None
+large_cause n p true why e = let same : puts.TooLarge n (room_of p) ≡ why = cc in subst (λ (w : PutFault). put_cause (Err w) ≡ None) same refl
+large_cause n p false why e = absurd cc
+
+by_part : (n : ℕ) (o : Option Part) (why : PutFault) → fitting n o ≡ Err why → put_cause (Err why) ≡ None
+by_part n None why e = let same : puts.NoRecord ≡ why = cc in subst (λ (w : PutFault). put_cause (Err w) ≡ None) same refl
+by_part n (Some p) why e = large_cause n p (is_large n p) why e
+
+-- a text that doesn't fit has no cause
+pub no_cause : (parts : List Part) (uuid : List ℕ) (n : ℕ) (why : PutFault) → fits_in parts uuid n ≡ Err why → put_cause (Err why) ≡ None
+no_cause parts uuid n why e = by_part n (find_part parts uuid) why e
+
+-- a put leaves an image where it is
+pub image_stays : (k : Kept) (uuid text : List ℕ) (now : Kept) (r : Result (Unit {0}) PutFault) (t : Trace) → PutOutcome k uuid text now r t → now ≡ record k { parts = now.parts }
+image_stays k uuid text now (Ok u) t w = rw w.1.now_is refl
+image_stays k uuid text now (Err puts.NoRecord) t w = rw w.0 refl
+image_stays k uuid text now (Err (puts.TooLarge n room)) t w = rw w.0 refl
+image_stays k uuid text now (Err puts.Memory) t w = rw w.0 refl
+image_stays k uuid text now (Err (puts.Failed faults)) t w = rw w.0 refl
 
 module _ (g : Setting) (a b : Told) (payload : List ℕ) where
   -- ---- gets
