@@ -1,5 +1,5 @@
--- The table of a disk, as it is read at boot, and the two parts of an APK device in it.
-use Rattle.std.specs.Prelude.{◌≡◌, ◌⊎◌, ℕ, ◌+◌, ◌-◌, ◌^◌, ◌<◌, ◌≤◌, true, false, List, [], ◌∷◌, ◌++◌, length, Option, Some, None, Result, Ok, Err, ◌==◌, if◌then◌else◌, string_bytes}
+-- The table of a disk, as it is read at boot, and the parts in it: the two of an APK device, the one of an instance image.
+use Rattle.std.specs.Prelude.{◌≡◌, ◌⊎◌, ℕ, ◌+◌, ◌-◌, ◌^◌, ◌<◌, ◌≤◌, true, false, List, [], ◌∷◌, ◌++◌, length, Option, Some, None, Result, Ok, Err, ◌==◌, if◌then◌else◌, string_bytes, slice_get}
 use Rattle.std.specs.Global.{Vec}
 use Rattle.mg_base.specs.declared.values.Span.{Span}
 use Rattle.host_traits.specs.declared.calls.Call.{Call}
@@ -161,28 +161,43 @@ parts_of apk idsig (Some a) (Some i) = Ok (a, i)
 abbrev pub parts_in : Table → List ℕ → List ℕ → Result (Span × Span) (List ℕ)
 parts_in table apk idsig = parts_of apk idsig (part apk table.entries) (part idsig table.entries)
 
--- a table that these exchanges gave, or one that was read before, has both parts
-pub record FindsParts (tables : List TableOn) (disk : ℕ) (apk idsig : List ℕ) (own : Exchanges) (new : List TableOn) (parts : Span × Span) : Type 0 where
+abbrev pub part_of : List ℕ → Option Span → Result Span (List ℕ)
+part_of name None = Err name
+part_of name (Some found) = Ok found
+
+-- the part of this name, or the name, where no part has it
+abbrev pub part_in : Table → List ℕ → Result Span (List ℕ)
+part_in table name = part_of name (part name table.entries)
+
+-- what is looked up for an APK device, and for an instance image
+abbrev pub both_parts : List ℕ → List ℕ → Table → Result (Span × Span) (List ℕ)
+both_parts apk idsig table = parts_in table apk idsig
+
+abbrev pub one_part : List ℕ → Table → Result Span (List ℕ)
+one_part name table = part_in table name
+
+-- What is looked up in a disk's table is there; the table is one that these exchanges gave, or one that was read before.
+pub record Finds {A : Type 0} (tables : List TableOn) (disk : ℕ) (look : Table → Result A (List ℕ)) (own : Exchanges) (new : List TableOn) (found : A) : Type 0 where
   pub table : Table
   pub has : HasTable (table_on disk tables) disk own table
-  pub parts_are : parts_in table apk idsig ≡ Ok parts
+  pub found_is : look table ≡ Ok found
   pub new_is : new ≡ with_table (table_on disk tables) tables disk table
 
--- it lacks one, and this is the first
-pub record LacksPart (tables : List TableOn) (disk : ℕ) (apk idsig : List ℕ) (own : Exchanges) (name : List ℕ) : Type 0 where
+-- the table lacks a part, and this is the first that it lacks
+pub record Lacks {A : Type 0} (tables : List TableOn) (disk : ℕ) (look : Table → Result A (List ℕ)) (own : Exchanges) (name : List ℕ) : Type 0 where
   pub table : Table
   pub has : HasTable (table_on disk tables) disk own table
-  pub lacks : parts_in table apk idsig ≡ Err name
+  pub lacks : look table ≡ Err name
 
--- why the parts were not found: the table has no such part, or the disk's table was to be read, and was not
-abbrev pub PartsFail : List TableOn → ℕ → List ℕ → List ℕ → BootCause → Trace → Type 0
-PartsFail tables disk apk idsig (NoPart name) t = (t.failed ≡ 0) × LacksPart tables disk apk idsig t.own (string_bytes name)
-PartsFail tables disk apk idsig Memory t = (t.failed ≡ 0) × HasSoFar (table_on disk tables) disk t.own
-PartsFail tables disk apk idsig why t = (table_on disk tables ≡ None) × TableFails disk why t
+-- why it was not found: the table has no such part, or the disk's table was to be read, and was not
+abbrev pub FindFails : {A : Type 0} → List TableOn → ℕ → (Table → Result A (List ℕ)) → BootCause → Trace → Type 0
+FindFails tables disk look (NoPart name) t = (t.failed ≡ 0) × Lacks tables disk look t.own (string_bytes name)
+FindFails tables disk look Memory t = (t.failed ≡ 0) × HasSoFar (table_on disk tables) disk t.own
+FindFails tables disk look why t = (table_on disk tables ≡ None) × TableFails disk why t
 
-abbrev pub PartsOutcome : List TableOn → ℕ → List ℕ → List ℕ → List TableOn → Result (Span × Span) BootCause → Trace → Type 0
-PartsOutcome tables disk apk idsig new (Ok parts) t = (t.failed ≡ 0) × FindsParts tables disk apk idsig t.own new parts
-PartsOutcome tables disk apk idsig new (Err why) t = PartsFail tables disk apk idsig why t
+abbrev pub FindOutcome : {A : Type 0} → List TableOn → ℕ → (Table → Result A (List ℕ)) → List TableOn → Result A BootCause → Trace → Type 0
+FindOutcome tables disk look new (Ok found) t = (t.failed ≡ 0) × Finds tables disk look t.own new found
+FindOutcome tables disk look new (Err why) t = FindFails tables disk look why t
 
 -- ---- the steps
 
@@ -228,12 +243,35 @@ IsNoPart name (NoPart s) = string_bytes s ≡ name
 IsNoPart name Memory = Unit {0}
 IsNoPart name other = ⊥
 
--- the parts of these names, or the first that isn't there
-abbrev pub PartsNamed : Table → List ℕ → List ℕ → Result (Span × Span) BootCause → Type 0
-PartsNamed table apk idsig (Ok parts) = parts_in table apk idsig ≡ Ok parts
-PartsNamed table apk idsig (Err (NoPart name)) = parts_in table apk idsig ≡ Err (string_bytes name)
-PartsNamed table apk idsig (Err Memory) = Unit {0}
-PartsNamed table apk idsig (Err other) = ⊥
+-- what was looked up, or the first name that isn't there
+abbrev pub IsLooked : {A : Type 0} → Result A (List ℕ) → Result A BootCause → Type 0
+IsLooked looked (Ok found) = looked ≡ Ok found
+IsLooked looked (Err (NoPart name)) = looked ≡ Err (string_bytes name)
+IsLooked looked (Err Memory) = Unit {0}
+IsLooked looked (Err other) = ⊥
+
+-- the place of a disk's table among the tables that were read, this one too
+pub record IsPlaced (tables : List TableOn) (disk : ℕ) (own : Exchanges) (new : List TableOn) (place : ℕ) : Type 0 where
+  pub table : Table
+  pub has : HasTable (table_on disk tables) disk own table
+  pub new_is : new ≡ with_table (table_on disk tables) tables disk table
+  pub known : TableOn
+  pub stands : slice_get new place ≡ Some known
+  pub table_is : known.table ≡ table
+
+-- what came of having a disk's table: it was to be read, and was not; or there was no room for it
+abbrev pub PlaceFails : List TableOn → ℕ → BootCause → Trace → Type 0
+PlaceFails tables disk Memory t = (t.failed ≡ 0) × HasSoFar (table_on disk tables) disk t.own
+PlaceFails tables disk why t = (table_on disk tables ≡ None) × TableFails disk why t
+
+abbrev pub PlaceOutcome : List TableOn → ℕ → List TableOn → Result ℕ BootCause → Trace → Type 0
+PlaceOutcome tables disk new (Ok place) t = (t.failed ≡ 0) × IsPlaced tables disk t.own new place
+PlaceOutcome tables disk new (Err why) t = PlaceFails tables disk why t
+
+-- the first table of a disk among them, and its place
+abbrev pub IsKnown : List TableOn → ℕ → Option ℕ → Type 0
+IsKnown tables disk None = table_on disk tables ≡ None
+IsKnown tables disk (Some place) = (known : TableOn) × (slice_get tables place ≡ Some known) × (table_on disk tables ≡ Some known.table)
 
 -- a part has a sector, and ends by 2 ^ 40
 pub record IsSpan (s : Span) : Type 0 where

@@ -15,8 +15,10 @@ use Rattle.verity_descriptor.specs.declared.DescriptorFault.{DescriptorFault}
 use Rattle.verity_descriptor.specs.declared.DescriptorFault.TheVariants as descriptor
 use Rattle.ro_file.specs.declared.files.RoFault.{RoFault}
 use Rattle.ro_file.specs.declared.files.RoFault.TheVariants as file
+use Rattle.instance_image.specs.declared.faults.ImageFault.{ImageFault}
+use Rattle.instance_image.specs.declared.faults.ImageFault.TheVariants as image
 use Rattle.guest_boot.specs.declared.faults.BootCause.{BootCause}
-use Rattle.guest_boot.specs.declared.faults.BootCause.TheVariants.{Gpt, NoPart, Apk, File, Failed, Short, Memory}
+use Rattle.guest_boot.specs.declared.faults.BootCause.TheVariants.{Gpt, NoPart, Apk, File, Image, Failed, Short, Memory}
 use Rattle.guest_boot.specs.declared.faults.BootFault.{BootFault}
 
 abbrev pub space : List ℕ
@@ -89,11 +91,23 @@ file_words (file.Descriptor fault) = codes "descriptor " ++ descriptor_words fau
 file_words (file.TooLong size) = codes "toolong " ++ decimal size
 file_words file.Memory = codes "memory"
 
+abbrev pub image_words : ImageFault → List ℕ
+image_words (image.Failed faults) = codes "failed " ++ decimal faults
+image_words (image.Short asked got) = codes "short " ++ pair asked got
+image_words image.Magic = codes "magic"
+image_words (image.Version found) = codes "version " ++ decimal found
+image_words (image.NotZero sector) = codes "notzero " ++ decimal sector
+image_words image.SaltMismatch = codes "saltmismatch"
+image_words (image.Header sector) = codes "header " ++ decimal sector
+image_words (image.TooMany sector) = codes "toomany " ++ decimal sector
+image_words image.Memory = codes "memory"
+
 abbrev pub boot_words : BootCause → List ℕ
 boot_words (Gpt fault) = codes "gpt " ++ gpt_words fault
 boot_words (NoPart name) = codes "nopart " ++ string_bytes name
 boot_words (Apk fault) = codes "apk " ++ apk_words fault
 boot_words (File fault) = codes "file " ++ file_words fault
+boot_words (Image fault) = codes "image " ++ image_words fault
 boot_words (Failed faults) = codes "failed " ++ decimal faults
 boot_words (Short asked got) = codes "short " ++ pair asked got
 boot_words Memory = codes "memory"

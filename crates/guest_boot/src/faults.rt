@@ -1,6 +1,7 @@
 // Why boot came to no end.
 use apk_verity::ApkFault;
 use gpt::GptFault;
+use instance_image::ImageFault;
 use ro_file::RoFault;
 
 /// The first thing that went wrong, and the number of its line in the plan's text.
@@ -21,6 +22,8 @@ pub enum BootCause {
     Apk(ApkFault),
     /// The read-only file was not opened.
     File(RoFault),
+    /// The instance image was not opened.
+    Image(ImageFault),
     /// A call for the disk's table failed; how often calls had failed after it.
     Failed { faults: u64 },
     /// An answer for the disk's table had fewer bytes than were asked for.

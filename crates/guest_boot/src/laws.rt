@@ -1,7 +1,16 @@
-// What a plan in the grammar says of its lines.
-ghost use Rattle.guest_boot.specs.Booting.{PlansAreServed};
+// What a plan in the grammar says of its lines, and what its lines leave as it is.
+ghost use Rattle.guest_boot.specs.Booting.{PlansAreServed, PlansAreSalted, InstanceStands, InstanceIsAlone, ImagesStay};
 
-/// The lines of a plan that was read are in the grammar, as `open_lines` needs. Its contract is the law; it does nothing.
+/// The lines of a plan that was read are in the grammar. Its contract is the law; it does nothing.
 pub fn plans_are_served()
     ensures { PlansAreServed }
+{}
+
+/// The instance line of a plan that was read: it is the only one, and the plan has a salt. No line of a plan changes the image that
+/// was opened for it. Its contract is the law; it does nothing.
+pub fn instances_are_alone()
+    ensures stands { InstanceStands }
+    ensures alone { InstanceIsAlone }
+    ensures salted { PlansAreSalted }
+    ensures stays { ImagesStay }
 {}

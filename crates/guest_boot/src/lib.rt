@@ -1,7 +1,8 @@
-//! Boot: the lines of a plan are opened in their order, over any host.
+//! Boot: the instance image of a plan is opened, and then its lines in their order, over any host.
 #![tactic(auto)]
 
 mod faults;
+mod instance;
 pub mod laws;
 mod lines;
 mod row;
@@ -9,6 +10,6 @@ mod tables;
 mod words;
 
 pub use crate::faults::{BootCause, BootFault};
-pub use crate::laws::plans_are_served;
+pub use crate::laws::{instances_are_alone, plans_are_served};
 pub use crate::lines::{Opened, open_lines};
 pub use crate::words::write_boot_end;

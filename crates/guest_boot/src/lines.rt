@@ -1,15 +1,18 @@
-// The lines of a plan, opened in their order.
-ghost use Rattle.std.specs.Prelude.{◌≡◌, ◌≤◌, length, IfOk, IfSome, MatchOption, None, Some};
+// A plan: its instance image, and then its lines in their order.
+ghost use Rattle.std.specs.Prelude.{◌≡◌, ◌≤◌, ℕ, List, IfOk, IfSome, MatchOption, None, Some};
 ghost use Rattle.host_traits.specs.Did.{Did};
 ghost use Rattle.ro_file.specs.Opening.{IsDescriptorCall};
-ghost use Rattle.guest_plan.specs.Spelling.{IsServed, IsMeasuredBy, IsDevice};
-ghost use Rattle.guest_boot.specs.Booting.{IsBuilt, AreBuilt, AreServed, AreItems, apk_cause, file_cause, measure_in, state_of, IsForLine, most_of_line, IsForLines, most_of, IsForApk, BlobOutcome, ApkOutcome, FileOutcome, LineOutcome, BootOutcome};
+ghost use Rattle.guest_plan.specs.Plans.{known};
+ghost use Rattle.guest_plan.specs.Spelling.{IsPlan, IsServed, IsMeasuredBy, IsDevice};
+ghost use Rattle.guest_boot.specs.Booting.{IsBuilt, AreBuilt, AreItems, apk_cause, file_cause, measure_in, state_of, IsForLine, most_in_place, IsForLines, most_of, IsForApk, BlobOutcome, ApkOutcome, FileOutcome, LineOutcome, BootOutcome};
 
 use crate::faults::{BootCause, BootFault};
+use crate::instance::open_instance;
 use crate::tables::{DiskTable, parts_on};
 use apk_verity::{ApkFault, open_apk};
-use guest_plan::{How, PlanLine};
+use guest_plan::{How, Plan, PlanLine};
 use host_traits::{Host, Raw};
+use instance_image::Image;
 use mg_base::Digest;
 use ro_file::{RoFault, RoFile, open_file};
 use sha_tree::Measure;
@@ -24,6 +27,8 @@ pub struct Opened {
     pub items: Vec<Device>,
     /// The read-only files, in the order of the `file` lines.
     pub files: Vec<RoFile>,
+    /// The instance image, where the plan has one.
+    pub image: Option<Image>,
 }
 
 // What was read and opened so far.
@@ -32,6 +37,7 @@ struct Boot {
     tables: Vec<DiskTable>,
     items: Vec<Device>,
     files: Vec<RoFile>,
+    image: Option<Image>,
 }
 
 // The measure that an APK device has to have, if any.
@@ -140,7 +146,7 @@ fn boot_blob(file: u32, measure: &Measure, boot: &mut Boot) -> Result<(), BootCa
     }
 }
 
-// One line.
+// One line in its place. The instance line makes nothing there: its image was opened before.
 fn boot_line<H: Host>(
     alloc: Global,
     host: &mut H,
@@ -151,11 +157,12 @@ fn boot_line<H: Host>(
     requires built { IsBuilt line.now }
     requires served { IsServed line.now }
     requires items { AreItems boot.old.items.items }
-    ensures did { Did (IsForLine line.now) (most_of_line line.now) (H.told host.old)
+    ensures did { Did (IsForLine line.now) (most_in_place line.now) (H.told host.old)
         (H.told host.new) (LineOutcome (state_of boot.old) line.now (state_of boot.new) result) }
     ensures items { AreItems boot.new.items.items }
 {
     match line {
+        PlanLine::Instance { .. } => Ok(()),
         PlanLine::Blob { file, measure } => boot_blob(*file, measure, boot),
         PlanLine::Apk {
             disk,
@@ -172,35 +179,41 @@ fn boot_line<H: Host>(
     }
 }
 
-/// Opens the lines of a plan in their order, whose numbers in its text are `numbers`. A `blob` line makes a device and calls
-/// nothing. An `apk` line reads its disk's table, unless an earlier line read it, and then opens the APK's part by its idsig's. A
-/// `file` line opens a file by its digest. The first fault ends it.
+/// Opens a plan. First comes its instance line, wherever it stands: it reads its disk's table and opens the image in its part,
+/// under the plan's salt. Then come the lines in their order. A `blob` line makes a device and calls nothing. An `apk` line reads
+/// its disk's table, unless that was read before, and opens the APK's part by its idsig's. A `file` line opens a file by its
+/// digest. The first fault ends it, with the number of its line in the plan's text.
 pub fn open_lines<H: Host>(
     alloc: Global,
     host: &mut H,
-    lines: &[PlanLine],
-    numbers: &[u64],
+    plan: &Plan,
     raw: &mut Raw,
 ) -> Result<Opened, BootFault>
-    requires built { AreBuilt lines.now }
-    requires served { AreServed lines.now }
-    requires numbers { length numbers.now ≡ length lines.now }
-    // The calls of the lines in their order, and what came of them.
-    ensures booted { Did (IsForLines lines.now) (most_of lines.now) (H.told host.old)
-        (H.told host.new) (BootOutcome lines.now numbers.now result) }
+    requires plan { (text : List ℕ) × IsPlan text (known plan.now) }
+    requires built { AreBuilt plan.now.lines.items }
+    // The calls of the instance line and of the lines in their order, and what came of them.
+    ensures booted { Did (IsForLines plan.now.lines.items) (most_of plan.now.lines.items)
+        (H.told host.old) (H.told host.new) (BootOutcome plan.now.salt plan.now.lines.items
+        plan.now.numbers.items result) }
     // Each device can be read.
     ensures items { IfOk result (λ o. AreItems o.items.items) }
 {
+    let mut tables = Vec::new(alloc);
+    let image = match open_instance(alloc, host, plan, &mut tables, raw) {
+        Ok(image) => image,
+        Err(fault) => return Err(fault),
+    };
     let mut boot = Boot {
-        tables: Vec::new(alloc),
+        tables,
         items: Vec::new(alloc),
         files: Vec::new(alloc),
+        image,
     };
-    for index in 0..lines.len() {
-        match boot_line(alloc, host, &lines[index], &mut boot, raw) {
+    for index in 0..plan.lines.len() {
+        match boot_line(alloc, host, &plan.lines[index], &mut boot, raw) {
             Ok(()) => {}
             Err(why) => {
-                let line = numbers[index];
+                let line = plan.numbers[index];
                 return Err(BootFault { line, why });
             }
         }
@@ -208,5 +221,6 @@ pub fn open_lines<H: Host>(
     Ok(Opened {
         items: boot.items,
         files: boot.files,
+        image: boot.image,
     })
 }

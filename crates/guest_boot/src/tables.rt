@@ -1,9 +1,9 @@
 // The tables of disks, and the parts in them.
-ghost use Rattle.std.specs.Prelude.{◌≡◌, ◌≤◌, IfOk, IfSome, ◌==◌, MatchOption, None, Some};
+ghost use Rattle.std.specs.Prelude.{◌≡◌, ◌≤◌, ◌<◌, length, IfOk, IfSome, ◌==◌};
 ghost use Rattle.host_traits.specs.declared.calls.Call.TheVariants.{BlockRead};
 ghost use Rattle.host_traits.specs.Did.{Did};
 ghost use Rattle.gpt.specs.Names.{part};
-ghost use Rattle.guest_boot.specs.Finding.{IsCall, size_call, IsTableCall, SizeOutcome, EndOutcome, gpt_cause, TableOutcome, table_on, IsNoPart, PartsNamed, PartsOutcome, IsSpan, AreSpans};
+ghost use Rattle.guest_boot.specs.Finding.{IsCall, size_call, IsTableCall, SizeOutcome, EndOutcome, gpt_cause, TableOutcome, IsKnown, IsNoPart, both_parts, one_part, IsLooked, PlaceOutcome, FindOutcome, IsSpan, AreSpans};
 
 use crate::faults::BootCause;
 use gpt::{GptFault, Table, read_gpt};
@@ -142,18 +142,44 @@ fn read_table<H: Host>(
     }
 }
 
-// The table of a disk among those that were read.
+// The place of a disk's table among those that were read.
 #[tactic(auto, unfolding(crate::specs::Finding::table_on))]
-fn known(tables: &[DiskTable], disk: u32) -> Option<&DiskTable>
-    ensures { MatchOption result (table_on disk tables.now ≡ None)
-        (λ t. table_on disk tables.now ≡ Some t.now.table) }
+fn known(tables: &[DiskTable], disk: u32) -> Option<usize>
+    ensures known { IsKnown tables.now disk result }
+    ensures inside { IfSome result (λ place. place < length tables.now) }
 {
-    for table in tables {
-        if table.is_on(disk) {
-            return Some(table);
+    for place in 0..tables.len() {
+        if tables[place].is_on(disk) {
+            return Some(place);
         }
     }
     None
+}
+
+// The place of a disk's table among `tables`. The table is read unless it stands there, and is then put there.
+fn table_for<H: Host>(
+    alloc: Global,
+    host: &mut H,
+    disk: u32,
+    tables: &mut Vec<DiskTable>,
+    raw: &mut Raw,
+) -> Result<usize, BootCause>
+    ensures did { Did (IsTableCall disk) 3 (H.told host.old) (H.told host.new)
+        (PlaceOutcome tables.old.items disk tables.new.items result) }
+    ensures inside { IfOk result (λ place. place < length tables.new.items) }
+{
+    if let Some(place) = known(tables.as_slice(), disk) {
+        return Ok(place);
+    }
+    let table = match read_table(alloc, host, disk, raw) {
+        Ok(table) => table,
+        Err(why) => return Err(why),
+    };
+    let place = tables.len();
+    match tables.push(table) {
+        Ok(()) => Ok(place),
+        Err(_) => Err(BootCause::Memory),
+    }
 }
 
 // The cause of a part that isn't there.
@@ -166,6 +192,17 @@ fn no_part(alloc: Global, name: &Name) -> BootCause
     }
 }
 
+// The part of this name.
+fn part_in(alloc: Global, table: &DiskTable, name: &Name) -> Result<Span, BootCause>
+    ensures looked { IsLooked (one_part name.now table.now.table) result }
+    ensures span { IfOk result IsSpan }
+{
+    match table.find(name) {
+        Some(span) => Ok(span),
+        None => Err(no_part(alloc, name)),
+    }
+}
+
 // The two parts of these names.
 fn parts_in(
     alloc: Global,
@@ -173,7 +210,7 @@ fn parts_in(
     apk: &Name,
     idsig: &Name,
 ) -> Result<(Span, Span), BootCause>
-    ensures named { PartsNamed table.now.table apk.now idsig.now result }
+    ensures looked { IsLooked (both_parts apk.now idsig.now table.now.table) result }
     ensures spans { IfOk result AreSpans }
 {
     let Some(first) = table.find(apk) else {
@@ -197,23 +234,31 @@ pub fn parts_on<H: Host>(
     raw: &mut Raw,
 ) -> Result<(Span, Span), BootCause>
     ensures did { Did (IsTableCall disk) 3 (H.told host.old) (H.told host.new)
-        (PartsOutcome tables.old.items disk apk.now idsig.now tables.new.items result) }
+        (FindOutcome tables.old.items disk (both_parts apk.now idsig.now) tables.new.items
+        result) }
     ensures spans { IfOk result AreSpans }
 {
-    if let Some(table) = known(tables.as_slice(), disk) {
-        return parts_in(alloc, table, apk, idsig);
+    match table_for(alloc, host, disk, tables, raw) {
+        Ok(place) => parts_in(alloc, &tables[place], apk, idsig),
+        Err(why) => Err(why),
     }
-    let table = match read_table(alloc, host, disk, raw) {
-        Ok(table) => table,
-        Err(why) => return Err(why),
-    };
-    let parts = match parts_in(alloc, &table, apk, idsig) {
-        Ok(parts) => parts,
-        Err(why) => return Err(why),
-    };
-    match tables.push(table) {
-        Ok(()) => {}
-        Err(_) => return Err(BootCause::Memory),
+}
+
+/// The part of an instance image. Its disk's table is read unless it is among `tables`, and is then put there.
+pub fn part_on<H: Host>(
+    alloc: Global,
+    host: &mut H,
+    disk: u32,
+    part: &Name,
+    tables: &mut Vec<DiskTable>,
+    raw: &mut Raw,
+) -> Result<Span, BootCause>
+    ensures did { Did (IsTableCall disk) 3 (H.told host.old) (H.told host.new)
+        (FindOutcome tables.old.items disk (one_part part.now) tables.new.items result) }
+    ensures span { IfOk result IsSpan }
+{
+    match table_for(alloc, host, disk, tables, raw) {
+        Ok(place) => part_in(alloc, &tables[place], part),
+        Err(why) => Err(why),
     }
-    Ok(parts)
 }

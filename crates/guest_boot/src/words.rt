@@ -3,7 +3,7 @@ ghost use Rattle.std.specs.Prelude.{◌≡◌, ◌≤◌, ◌+◌, ◌++◌, len
 ghost use Rattle.std.specs.Io.KnownBytes.{Appends};
 ghost use Rattle.std.specs.Fmt.{decimal, signed_decimal};
 ghost use Rattle.host_traits.specs.Streams.{SomePrefix, HasCause};
-ghost use Rattle.guest_boot.specs.Wording.{gpt_words, idsig_words, apk_words, descriptor_words, file_words, front_words, named, front, boot_end, space, pair, crc_text, digests};
+ghost use Rattle.guest_boot.specs.Wording.{gpt_words, idsig_words, apk_words, descriptor_words, file_words, image_words, front_words, named, front, boot_end, space, pair, crc_text, digests};
 
 use crate::faults::{BootCause, BootFault};
 use crate::row::Row;
@@ -11,6 +11,7 @@ use apk_verity::ApkFault;
 use gpt::GptFault;
 use host_traits::{Failed, Sink};
 use idsig_v4::IdsigFault;
+use instance_image::ImageFault;
 use mg_base::Digest;
 use ro_file::RoFault;
 use verity_descriptor::DescriptorFault;
@@ -164,6 +165,24 @@ fn put_file(row: &mut Row, fault: &RoFault)
     }
 }
 
+fn put_image(row: &mut Row, fault: &ImageFault)
+    requires { length row.old ≤ 60 }
+    ensures value { row.new ≡ row.old ++ image_words fault.now }
+    ensures len { length row.new ≤ 200 }
+{
+    match fault {
+        ImageFault::Failed { faults } => put_number(row, b"failed ", *faults),
+        ImageFault::Short { asked, got } => put_pair(row, b"short ", *asked, *got),
+        ImageFault::Magic => row.put(b"magic"),
+        ImageFault::Version { found } => put_number(row, b"version ", *found as u64),
+        ImageFault::NotZero { sector } => put_number(row, b"notzero ", *sector),
+        ImageFault::SaltMismatch => row.put(b"saltmismatch"),
+        ImageFault::Header { sector } => put_number(row, b"header ", *sector),
+        ImageFault::TooMany { sector } => put_number(row, b"toomany ", *sector),
+        ImageFault::Memory => row.put(b"memory"),
+    }
+}
+
 // The words of a cause, but for the name at their end.
 fn put_front(row: &mut Row, why: &BootCause)
     requires { length row.old ≤ 40 }
@@ -183,6 +202,10 @@ fn put_front(row: &mut Row, why: &BootCause)
         BootCause::File(fault) => {
             row.put(b"file ");
             put_file(row, fault);
+        }
+        BootCause::Image(fault) => {
+            row.put(b"image ");
+            put_image(row, fault);
         }
         BootCause::Failed { faults } => put_number(row, b"failed ", *faults),
         BootCause::Short { asked, got } => put_pair(row, b"short ", *asked, *got),
