@@ -12,9 +12,9 @@ use Rattle.guest_plan.specs.declared.plan.Item.TheVariants.{Secret, InstanceSalt
 use Rattle.guest_plan.specs.Plans.{Known, nothing, add}
 use Rattle.guest_plan.specs.Spelling.{IsPlan, IsServed, IsItem as IsSaid}
 use Rattle.guest_plan.specs.declared.plan.How.TheVariants.{Fixed, First, Kept}
-use Rattle.guest_boot.specs.Booting.{IsBuilt, AreBuilt, AreServed}
+use Rattle.guest_boot.specs.Booting.{IsBuilt, AreBuilt}
 use Rattle.guest_boot.proofs.Plans.{chosen, bound}
-use Rattle.guest_cli.specs.Planned.{is_built, other_from, first_unbuilt}
+use Rattle.guest_cli.specs.Planned.{is_built, unbuilt_in, first_unbuilt}
 
 -- ---- a number for each line
 
@@ -41,26 +41,25 @@ plan_numbered text k p = numbered 2 nothing k p.items.items refl p.items.says
 -- ---- lines that are served
 
 one_built : (l : PlanLine) → is_built l ≡ true → IsBuilt l
+one_built (line.Instance disk part) e = tt
 one_built (line.Blob file m) e = tt
 one_built (line.Apk disk apk idsig (Fixed m)) e = tt
 one_built (line.Apk disk apk idsig First) e = tt
 one_built (line.Apk disk apk idsig (Kept id)) e = absurd cc
 one_built (line.File name file digest) e = tt
-one_built (line.Instance disk part) e = absurd cc
 one_built (line.Write name file) e = absurd cc
 one_built (line.WriteDir name file) e = absurd cc
 
-both_true : (a b : Bool) (n : ℕ) (r : Option ℕ) → (if a then (if b then r else Some n) else Some n) ≡ None → (b ≡ true) × (r ≡ None)
-both_true true true n r e = (refl, e)
-both_true true false n r e = absurd cc
-both_true false b n r e = absurd cc
+both_none : (b : Bool) (n : ℕ) (r : Option ℕ) → (if b then r else Some n) ≡ None → (b ≡ true) × (r ≡ None)
+both_none true n r e = (refl, e)
+both_none false n r e = absurd cc
 
-all_built : (keyed : Bool) (n : ℕ) (lines : List PlanLine) (numbers : List ℕ) → length numbers ≡ length lines → other_from keyed n lines numbers ≡ None → AreBuilt lines
-all_built keyed n [] numbers even e = tt
-all_built keyed n (l ∷ lines) [] even e = absurd (omega (arith, even))
-all_built keyed n (l ∷ lines) (m ∷ numbers) even e =
-    let b = both_true (n == m) (is_built l) n (other_from keyed (n + 1) lines numbers) e in
-    (one_built l b.0, all_built keyed (n + 1) lines numbers (omega (arith, even)) b.1)
+all_built : (lines : List PlanLine) (numbers : List ℕ) → length numbers ≡ length lines → unbuilt_in lines numbers ≡ None → AreBuilt lines
+all_built [] numbers even e = tt
+all_built (l ∷ lines) [] even e = absurd (omega (arith, even))
+all_built (l ∷ lines) (m ∷ numbers) even e =
+    let b = both_none (is_built l) m (unbuilt_in lines numbers) e in
+    (one_built l b.0, all_built lines numbers (omega (arith, even)) b.1)
 
 pub plan_built : (text : List ℕ) (k : Known) → IsPlan text k → first_unbuilt k ≡ None → AreBuilt k.lines
-plan_built text k p none = all_built (is_some k.secret || is_some k.salt) 2 k.lines k.numbers (plan_numbered text k p) none
+plan_built text k p none = all_built k.lines k.numbers (plan_numbered text k p) none

@@ -9,14 +9,12 @@ use Rattle.host_traits.proofs.Talking.{talked_on}
 use Rattle.host_tape.specs.Tape.{tape_bytes}
 use Rattle.host_rec.specs.Recorded.{Recorded as Recorder, Kept as KeptCalls, calls_in, nothing, told_with}
 use Rattle.host_mem.specs.Mem.{Mem, Count, mem_held, mem_told, unused}
-use Rattle.verity_path.specs.declared.device.Device.{Device}
 use Rattle.guest_plan.specs.declared.store.StoreLine.{StoreLine}
 use Rattle.guest_plan.specs.Plans.{Known}
 use Rattle.guest_files.specs.declared.load.Refusal.{Refusal}
 use Rattle.guest_files.specs.declared.load.Refusal.TheVariants as refusal
 use Rattle.guest_files.specs.Files.{Names}
 use Rattle.guest_files.specs.Keeping.{Parcel, IsStored, MayBeStored, StopsAt, StoringStops, kept_of}
-use Rattle.ro_file.specs.Files.{MeasuredFile}
 use Rattle.guest_rules.specs.Machine.{Setting, State, Turn, moment}
 use Rattle.guest_rules.specs.Run.{AreOpened, Runs, calls_of}
 use Rattle.guest_rules.proofs.Standing.{runs_stand}
@@ -27,7 +25,7 @@ use Rattle.guest_cli.specs.declared.status.Status.TheVariants.{BootFault, Done, 
 use Rattle.guest_cli.specs.Session.{Streams, IsSession}
 use Rattle.guest_boot.specs.declared.faults.BootFault.{BootFault as Fault}
 use Rattle.guest_boot.specs.Booting.{IsForLines, most_of}
-use Rattle.guest_cli.specs.Booted.{BootedOutcome, BootsOver, Unbooted, setting_of, first_state, boot_status}
+use Rattle.guest_cli.specs.Booted.{Opened, BootedOutcome, BootsOver, Unbooted, setting_of, first_state, boot_status}
 use Rattle.guest_cli.specs.Outside.{Quiet, status_of, refused}
 use Rattle.guest_cli.specs.Serve.{before, Recorded, SatOver, Kept, Unkept, ServesList}
 use Rattle.guest_cli.specs.Loads.{IsStocked, IsServed, IsUnserved, SatOutcome, StoreOutcome, StoresCause}
@@ -49,14 +47,15 @@ recorded g first m booted t mid r turns boot opened runs =
     let finish : Told = told_with (mem_told r.host) r.kept in
     let start : Told = told_with (mem_told mid.host) mid.kept in
     let all = talked_on (before (mem_held m)) start finish booted (calls_of turns) boot runs.talked in
-    let plain = runs.run (heard_of booted) in
+    let plain = runs.run (heard_of booted) [] in
     record {
       talked = runs.talked;
       made = sym (some_same (calls_in r.kept.calls r.kept.items) (taken None (booted ++ calls_of turns)) all.made);
       faults = refl;
       state = t;
+      sealed = runs.sealed;
       plain = plain;
-      run = λ world w. runs_stand g world (moment first start (heard_of booted)) turns (moment t finish (heard_of booted ++ heard_of (calls_of turns))) opened w plain;
+      run = λ world w sealed. runs_stand g world (moment first start (heard_of booted) []) turns (moment t finish (heard_of booted ++ heard_of (calls_of turns)) runs.sealed) opened w plain sealed;
     }
 
 -- the same start, said of the host that was given
@@ -64,36 +63,37 @@ from_before : (m : Mem) (old : Recorder Mem) → old.host ≡ m → old.kept ≡
 from_before m old same none unused_is = ap (λ (h : Mem). told_with (mem_told h) old.kept) same ∙ (ap (λ (k : KeptCalls). told_with (mem_told m) k) none ∙ fresh_told m m.count refl unused_is)
 
 -- the session over a recorder before a host that was not called yet, behind a boot over it
-pub sat_over : (items : List Device) (opened : List MeasuredFile) (st : State) (entropy : List ℕ) (m : Mem) (booted : List Made) (t : State) (old mid r : Recorder Mem) (old_s new_s : Streams) (e : Result (Unit {0}) SessionEnd) (plan : Known) → st ≡ first_state plan.lines opened entropy
-    → old.host ≡ m → old.kept ≡ nothing → m.count ≡ unused → BootsOver plan.lines (told_with (mem_told old.host) old.kept) (told_with (mem_told mid.host) mid.kept) booted items opened → AreOpened (first_state plan.lines opened entropy) (heard_of booted)
-    → IsSession (Runs (setting_of items) st t (told_with (mem_told mid.host) mid.kept) (told_with (mem_told r.host) r.kept)) (told_with (mem_told r.host) r.kept) old_s new_s e
+pub sat_over : (opened : Opened) (g : Setting) (st : State) (entropy : List ℕ) (m : Mem) (booted : List Made) (t : State) (old mid r : Recorder Mem) (old_s new_s : Streams) (e : Result (Unit {0}) SessionEnd) (plan : Known)
+    → g ≡ setting_of plan opened → st ≡ first_state plan opened entropy
+    → old.host ≡ m → old.kept ≡ nothing → m.count ≡ unused → BootsOver plan (told_with (mem_told old.host) old.kept) (told_with (mem_told mid.host) mid.kept) booted opened → AreOpened (first_state plan opened entropy) (heard_of booted)
+    → IsSession (Runs g st t (told_with (mem_told mid.host) mid.kept) (told_with (mem_told r.host) r.kept)) (told_with (mem_told r.host) r.kept) old_s new_s e
     → IsServed plan (mem_held m) entropy old_s new_s e r (told_with (mem_told r.host) r.kept)
-sat_over items opened st entropy m booted t old mid r old_s new_s e plan state same none unused_is boots there d =
+sat_over opened g st entropy m booted t old mid r old_s new_s e plan setting state same none unused_is boots there d =
     let start : Told = told_with (mem_told mid.host) mid.kept in
     let finish : Told = told_with (mem_told r.host) r.kept in
-    let from : BootsOver plan.lines (before (mem_held m)) start booted items opened = subst (λ (z : Told). BootsOver plan.lines z start booted items opened) (from_before m old same none unused_is) boots in
+    let from : BootsOver plan (before (mem_held m)) start booted opened = subst (λ (z : Told). BootsOver plan z start booted opened) (from_before m old same none unused_is) boots in
     record {
-      items = items;
       opened = opened;
       booted = booted;
       mid = start;
       boots = from;
-      session = session_so _ _ (λ turns runs. recorded (setting_of items) (first_state plan.lines opened entropy) m booted t mid r turns from.talked there (subst (λ (s : State). Runs (setting_of items) s t start finish turns) state runs)) finish old_s new_s e d;
+      session = session_so _ _ (λ turns runs. recorded (setting_of plan opened) (first_state plan opened entropy) m booted t mid r turns from.talked there
+          (subst (λ (z : Setting). Runs z (first_state plan opened entropy) t start finish turns) setting (subst (λ (s : State). Runs g s t start finish turns) state runs))) finish old_s new_s e d;
       held_is = refl;
     }
 
-unserved_by : (plan : Known) (m : Mem) (entropy : List ℕ) (fault : Fault) (old_s new_s : Streams) (status : Status) → status ≡ boot_status fault → Quiet old_s new_s → (boot_status fault ≡ Memory) ⊎ ((boot_status fault ≡ BootFault fault) × Unbooted plan.lines plan.numbers (before (mem_held m)) fault)
+unserved_by : (plan : Known) (m : Mem) (entropy : List ℕ) (fault : Fault) (old_s new_s : Streams) (status : Status) → status ≡ boot_status fault → Quiet old_s new_s → (boot_status fault ≡ Memory) ⊎ ((boot_status fault ≡ BootFault fault) × Unbooted plan (before (mem_held m)) fault)
     → SatOutcome plan (mem_held m) entropy old_s new_s (Err status)
 unserved_by plan m entropy fault old_s new_s status is quiet (inl e) = inl (is ∙ e, quiet)
 unserved_by plan m entropy fault old_s new_s status is quiet (inr f) = inr (inl (record { fault = fault; status_is = is ∙ f.0; fails = f.1; quiet = quiet }))
 
 -- a boot over it that failed
 pub unserved : (plan : Known) (m : Mem) (entropy : List ℕ) (old : Recorder Mem) (finish : Told) (fault : Fault) (old_s new_s : Streams) (status : Status) → status ≡ boot_status fault → old.host ≡ m → old.kept ≡ nothing → m.count ≡ unused → Quiet old_s new_s
-    → Did (IsForLines plan.lines) (most_of plan.lines) (told_with (mem_told old.host) old.kept) finish (BootedOutcome plan.lines plan.numbers entropy (Err fault))
+    → Did (IsForLines plan.lines) (most_of plan.lines) (told_with (mem_told old.host) old.kept) finish (BootedOutcome plan entropy (Err fault))
     → SatOutcome plan (mem_held m) entropy old_s new_s (Err status)
 unserved plan m entropy old finish fault old_s new_s status is same none unused_is quiet d =
     unserved_by plan m entropy fault old_s new_s status is quiet
-    (boot_fails plan.lines plan.numbers entropy (before (mem_held m)) finish fault (subst (λ (z : Told). Did (IsForLines plan.lines) (most_of plan.lines) z finish (BootedOutcome plan.lines plan.numbers entropy (Err fault))) (from_before m old same none unused_is) d))
+    (boot_fails plan entropy (before (mem_held m)) finish fault (subst (λ (z : Told). Did (IsForLines plan.lines) (most_of plan.lines) z finish (BootedOutcome plan entropy (Err fault))) (from_before m old same none unused_is) d))
 
 -- ---- what is stored
 
@@ -151,16 +151,15 @@ module _ (files : Option Files) (plan store entropy : List ℕ) (k : Known) (lin
     made = stocked.made;
     bytes = bytes;
     bytes_there = stocked.entropy_there;
-    items = served.items;
     opened = served.opened;
     booted = served.booted;
     mid = served.mid;
-    boots = subst (λ (h : Held). BootsOver stocked.made.planned.plan.lines (before h) served.mid served.booted served.items served.opened) (sym stocked.held_is)
-        (subst (λ (p : Known). BootsOver p.lines (before held) served.mid served.booted served.items served.opened) (sym stocked.plan_is) served.boots);
+    boots = subst (λ (h : Held). BootsOver stocked.made.planned.plan (before h) served.mid served.booted served.opened) (sym stocked.held_is)
+        (subst (λ (p : Known). BootsOver p (before held) served.mid served.booted served.opened) (sym stocked.plan_is) served.boots);
     calls = r.kept.calls;
     records = r.kept.items;
     finish = finish;
-    session = subst (λ (p : Known). IsSession (Recorded (setting_of served.items) (first_state p.lines served.opened bytes) served.booted served.mid r.kept.calls r.kept.items finish) finish old new e) (sym stocked.plan_is) served.session;
+    session = subst (λ (p : Known). IsSession (Recorded (setting_of p served.opened) (first_state p served.opened bytes) served.booted served.mid r.kept.calls r.kept.items finish) finish old new e) (sym stocked.plan_is) served.session;
   }
 
   kept_with : (out : List ℕ) (r : Recorder Mem) (finish : Told) (stocked : IsStocked files plan store entropy k lines held bytes) (served : IsServed k held bytes old new (Ok tt) r finish) → length r.kept.calls ≡ length r.kept.items → (Storing : List Parcel → Type 0)
@@ -208,8 +207,8 @@ module _ (files : Option Files) (plan store entropy : List ℕ) (k : Known) (lin
           made = stocked.made;
           bytes = bytes;
           bytes_there = stocked.entropy_there;
-          fails = subst (λ (h : Held). Unbooted stocked.made.planned.plan.lines stocked.made.planned.plan.numbers (before h) u.fault) (sym stocked.held_is)
-              (subst (λ (p : Known). Unbooted p.lines p.numbers (before held) u.fault) (sym stocked.plan_is) u.fails);
+          fails = subst (λ (h : Held). Unbooted stocked.made.planned.plan (before h) u.fault) (sym stocked.held_is)
+              (subst (λ (p : Known). Unbooted p (before held) u.fault) (sym stocked.plan_is) u.fails);
         },
         record { quiet = u.quiet; unchanged = refl },
       )

@@ -1,18 +1,20 @@
 // From a plan to a machine.
-ghost use Rattle.std.specs.Prelude.{◌≡◌, ◌≤◌, ◌<◌, ◌+◌, ◌^◌, ℕ, List, [], length, IfOk, None, drop, ◌++◌};
+ghost use Rattle.std.specs.Prelude.{◌≡◌, ℕ, List, [], IfOk, None};
 ghost use Rattle.host_traits.specs.Did.{Did};
 ghost use Rattle.guest_plan.specs.Plans.{known};
 ghost use Rattle.guest_plan.specs.Spelling.{IsPlan};
 ghost use Rattle.guest_boot.specs.Booting.{IsForLines, most_of};
-ghost use Rattle.guest_cli.specs.Planned.{is_built, other_from, first_unbuilt};
-ghost use Rattle.guest_cli.specs.Booted.{BootedOutcome};
+ghost use Rattle.guest_cli.specs.Planned.{is_built, unbuilt_in, first_unbuilt};
+ghost use Rattle.guest_cli.specs.Booted.{BootedOutcome, records_of};
 
 use crate::engine::Engine;
 use crate::entropy::Entropy;
+use crate::records::Records;
 use guest_boot::{BootCause, BootFault, Opened, open_lines};
 use guest_names::plant_lines;
 use guest_plan::{How, Plan, PlanLine};
 use host_traits::{Host, Raw};
+use instance_image::Image;
 use mg_base::{Memory, Page};
 use session_frames::Splitter;
 use std::alloc::Global;
@@ -30,42 +32,51 @@ fn is_built(line: &PlanLine) -> bool
     ensures { result ≡ is_built line.now }
 {
     match line {
-        PlanLine::Blob { .. } => true,
+        PlanLine::Instance { .. } | PlanLine::Blob { .. } | PlanLine::File { .. } => true,
         PlanLine::Apk { how, .. } => match how {
             How::Fixed(_) => true,
             How::First => true,
             How::Kept(_) => false,
         },
-        PlanLine::File { .. } => true,
-        _ => false,
+        PlanLine::Write { .. } | PlanLine::WriteDir { .. } => false,
     }
 }
 
-// The first line of the text from `from` on that is not served, where `keyed` says that one of the lines without a number
-// here is the secret's or the salt's.
-fn other_from(keyed: bool, from: u64, lines: &[PlanLine], numbers: &[u64]) -> Option<u64>
-    requires { from + length lines.now < 2 ^ 64 }
-    ensures { result ≡ other_from keyed from lines.now numbers.now }
+// The number of the first of these lines that isn't served.
+fn unbuilt_in(lines: &[PlanLine], numbers: &[u64]) -> Option<u64>
+    ensures { result ≡ unbuilt_in lines.now numbers.now }
 {
     let [line, later @ ..] = lines else {
-        return if keyed { Some(from) } else { None };
+        return None;
     };
     let [number, rest @ ..] = numbers else {
         return None;
     };
-    if *number == from && is_built(line) {
-        return other_from(keyed, from + 1, later, rest);
+    if is_built(line) {
+        return unbuilt_in(later, rest);
     }
-    Some(from)
+    Some(*number)
 }
 
-/// The first line of a plan that asks for what isn't served yet: any but a blob's, a file's, and an APK's whose measure is in the
-/// plan or the host's.
+/// The first line of a plan that asks for what isn't served yet: an APK's whose measure is in a record, or that of a writable file or
+/// directory.
 pub fn first_unbuilt(plan: &Plan) -> Option<u64>
     ensures { result ≡ first_unbuilt (known plan.now) }
 {
-    let keyed = plan.secret.is_some() || plan.salt.is_some();
-    other_from(keyed, 2, &plan.lines, &plan.numbers)
+    unbuilt_in(&plan.lines, &plan.numbers)
+}
+
+// The image with the plan's secret, where there are both.
+fn records_of(image: Option<Image>, secret: &Option<[u8; 32]>) -> Option<Records>
+    ensures { result ≡ records_of image secret.now }
+{
+    match (image, secret) {
+        (Some(image), Some(secret)) => Some(Records {
+            image,
+            secret: *secret,
+        }),
+        _ => None,
+    }
 }
 
 // Room for one answer, one page, one reply and one frame.
@@ -100,8 +111,9 @@ fn no_memory() -> BootFault
     }
 }
 
-/// Makes a machine for a plan: its lines are opened in their order, by calls of the host. Room for one answer, one page, one
-/// reply and one frame is taken here, and none later: over a host that takes no memory, a measured read takes none.
+/// Makes a machine for a plan, by calls of the host: its instance image is opened first, and then its lines in their order. Room for
+/// one answer, one page, one reply and one frame is taken here, and none later: over a host that takes no memory, a measured read
+/// takes none.
 pub fn boot<H: Host>(
     alloc: Global,
     plan: &Plan,
@@ -111,8 +123,7 @@ pub fn boot<H: Host>(
     requires plan { (text : List ℕ) × IsPlan text (known plan.now) }
     requires built { first_unbuilt (known plan.now) ≡ None }
     ensures booted { Did (IsForLines plan.now.lines.items) (most_of plan.now.lines.items)
-        (H.told host.old) (H.told host.new)
-        (BootedOutcome plan.now.lines.items plan.now.numbers.items entropy result) }
+        (H.told host.old) (H.told host.new) (BootedOutcome (known plan.now) entropy result) }
     ensures splitter { IfOk result (λ m. m.splitter ≡ record { held = []; at = 0 }) }
 {
     let Rooms {
@@ -123,13 +134,11 @@ pub fn boot<H: Host>(
         Ok(rooms) => rooms,
         Err(_) => return Err(no_memory()),
     };
-    let Opened { items, files } = match open_lines(
-        alloc,
-        host,
-        &plan.lines,
-        &plan.numbers,
-        &mut buf.raw,
-    ) {
+    let Opened {
+        items,
+        files,
+        image,
+    } = match open_lines(alloc, host, plan, &mut buf.raw) {
         Ok(opened) => opened,
         Err(fault) => return Err(fault),
     };
@@ -137,8 +146,9 @@ pub fn boot<H: Host>(
         Ok(server) => server,
         Err(_) => return Err(no_memory()),
     };
+    let records = records_of(image, &plan.secret);
     Ok(Machine {
-        engine: Engine::new(items, server, entropy, served, buf),
+        engine: Engine::new(items, server, records, entropy, served, buf),
         splitter,
     })
 }
