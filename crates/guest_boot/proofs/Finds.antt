@@ -1,6 +1,7 @@
 -- The table of a disk and the parts in it, step by step.
-use Rattle.std.proofs.Common.{◌≡◌, ℕ, ◌≤◌, ◌∙◌, Bool, true, false, List, [], ◌∷◌, ◌++◌, length, Option, Some, None, Result, Ok, Err, refl, ap, sym, subst, inl, inr, arith}
-use Rattle.std.specs.Prelude.{IfSome, ◌⊎◌, ◌&&◌, if◌then◌else◌}
+use Rattle.std.proofs.Common.{◌≡◌, ℕ, zero, suc, ◌<◌, ◌≤◌, ◌∙◌, ◌==◌, drop, get_or, Bool, true, false, List, [], ◌∷◌, ◌++◌, length, Option, Some, None, Result, Ok, Err, refl, ap, sym, subst, inl, inr, arith}
+use Rattle.std.specs.Prelude.{IfSome, ◌⊎◌, ◌&&◌, if◌then◌else◌, slice_get}
+use Rattle.std.proofs.lemmas.Option.{slice_get_read}
 use Rattle.std.specs.List.{All}
 use Rattle.std.specs.Str.{bytes_eq}
 use Rattle.std.proofs.lemmas.List.Elements.{All-head, All-tail}
@@ -18,8 +19,8 @@ use Rattle.gpt.specs.Entries.{is_used}
 use Rattle.gpt.specs.Rules.{is_sized, gpt_of}
 use Rattle.gpt.specs.Names.{part, is_called, span_of, name_units, text_units, IsBounded, UsedIsBounded}
 use Rattle.guest_boot.specs.declared.faults.BootCause.{BootCause}
-use Rattle.guest_boot.specs.declared.faults.BootCause.TheVariants.{Gpt, NoPart, Apk, File, Failed, Short, Memory}
-use Rattle.guest_boot.specs.Finding.{size_call, head_call, tail_call, IsCall, IsTableCall, HeardEnds, BreaksTable, TableRefused, TableNext, TableFails, TableOn, TableOutcome, SizeOutcome, IsEnd, EndFails, gpt_cause, table_on, HasTable, HasSoFar, with_table, FindsParts, PartsFail, PartsOutcome, PartsNamed, IsSpan}
+use Rattle.guest_boot.specs.declared.faults.BootCause.TheVariants.{Gpt, NoPart, Apk, File, Image, Failed, Short, Memory}
+use Rattle.guest_boot.specs.Finding.{size_call, head_call, tail_call, IsCall, IsTableCall, HeardEnds, ReadsTable, BreaksTable, TableRefused, TableNext, TableFails, TableOn, TableOutcome, SizeOutcome, IsEnd, EndFails, gpt_cause, table_on, HasTable, HasSoFar, with_table, IsKnown, IsPlaced, PlaceFails, PlaceOutcome, IsLooked, FindFails, FindOutcome, IsSpan}
 
 -- ---- parts are spans
 
@@ -50,6 +51,7 @@ module _ (disk : ℕ) where
   size_fails (NoPart name) t h = h
   size_fails (Apk f) t h = h
   size_fails (File f) t h = h
+  size_fails (Image f) t h = h
   size_fails (Failed faults) t h = failed_so (IsCall (size_call disk)) (TableNext disk t.own) t faults (λ call is. inl (h.0, is)) h.1
   size_fails (Short asked got) t h = absurd h
   size_fails Memory t h = (h.0, inl h.1)
@@ -74,6 +76,7 @@ module _ (disk : ℕ) where
     head_fails (NoPart name) x y failed le p q = q
     head_fails (Apk f) x y failed le p q = q
     head_fails (File f) x y failed le p q = q
+    head_fails (Image f) x y failed le p q = q
     head_fails (Failed faults) x y failed le p q = failed_so (IsCall (head_call disk)) (TableNext disk (x ++ y)) (trace_of (x ++ y) failed a c) faults
         (λ call is. inr (inl (record { sectors = n; own_is = joined x y _ _ p.1 q.0; sized = p.2 }, is)))
         (failed_later _ a b c x y failed faults le q.1)
@@ -97,6 +100,7 @@ module _ (disk : ℕ) where
     tail_fails (NoPart name) x y failed le p q = q
     tail_fails (Apk f) x y failed le p q = q
     tail_fails (File f) x y failed le p q = q
+    tail_fails (Image f) x y failed le p q = q
     tail_fails (Failed faults) x y failed le p q = failed_so (IsCall (tail_call disk n)) (TableNext disk (x ++ y)) (trace_of (x ++ y) failed a c) faults
         (λ call is. inr (inr (record { sectors = n; head = head; own_is = joined x y _ _ p.1 q.0; sized = p.2; head_len = p.3 }, is)))
         (failed_later _ a b c x y failed faults le q.1)
@@ -147,77 +151,114 @@ module _ (disk : ℕ) where
       let same : f ≡ broken.Memory = cc in
       did_so _ _ 3 3 a b _ _ d (λ call x. x) (omega arith) (λ u h. subst (λ (z : GptFault). TableFails disk (gpt_cause z) u) (sym same) (h.0, inr (inr (inr (ends n head tail u h)))))
 
--- ---- the parts
+-- ---- the place of a table
+
+-- what stands from a place on
+pub drop_at : {A : Type 0} (xs : List A) (i : ℕ) (x : A) → i < length xs → x ≡ get_or xs i x → drop i xs ≡ x ∷ drop (suc i) xs
+drop_at [] i x lt is = absurd (omega (arith, lt))
+drop_at (y ∷ xs) zero x lt is = ap (λ z. z ∷ xs) (sym is)
+drop_at (y ∷ xs) (suc i) x lt is = drop_at xs i x (omega (arith, lt)) is
+
+first_on : (disk : ℕ) (k : TableOn) (ts : List TableOn) → (k.disk == disk) ≡ true → table_on disk (k ∷ ts) ≡ Some k.table
+unfolding table_on
+first_on disk k ts on = rw on refl
+
+pub known_at : (disk : ℕ) (ts : List TableOn) (i : ℕ) (k : TableOn) → i < length ts → k ≡ get_or ts i k → (k.disk == disk) ≡ true → table_on disk (drop i ts) ≡ table_on disk ts → IsKnown ts disk (Some i)
+known_at disk ts i k lt is on e =
+    (k, slice_get_read ts (length ts) i k refl lt is, sym e ∙ ap (λ (z : List TableOn). table_on disk z) (drop_at ts i k lt is) ∙ first_on disk k (drop (suc i) ts) on)
 
 pub so_far : (disk : ℕ) (o : Option Table) (own : Exchanges) (t : Table) → HasTable o disk own t → HasSoFar o disk own
 so_far disk None own t h = inr (inr (inr h.ends))
 so_far disk (Some known) own t h = h.0
 
-module _ (tables : List TableOn) (disk : ℕ) (apk idsig : List ℕ) where
-  module _ (t : Table) (own : Exchanges) (o : Option Table) (is : table_on disk tables ≡ o) (has : HasTable o disk own t) where
-    has_it : HasTable (table_on disk tables) disk own t
-    has_it = subst (λ (z : Option Table). HasTable z disk own t) (sym is) has
+last_is : (xs : List TableOn) (k : TableOn) → slice_get (xs ++ k ∷ []) (length xs) ≡ Some k
+last_is [] k = refl
+last_is (x ∷ xs) k = last_is xs k
 
-    pub lacks : (why : BootCause) (a b : Told) → PartsNamed t apk idsig (Err why) → PartsFail tables disk apk idsig why (trace_of own 0 a b)
-    lacks (NoPart name) a b p = (refl, record { table = t; has = has_it; lacks = p })
-    lacks Memory a b p = (refl, so_far disk (table_on disk tables) own t has_it)
-    lacks (Gpt f) a b p = absurd p
-    lacks (Apk f) a b p = absurd p
-    lacks (File f) a b p = absurd p
-    lacks (Failed faults) a b p = absurd p
-    lacks (Short asked got) a b p = absurd p
-
-    pub finds : (new : List TableOn) (parts : Span × Span) → new ≡ with_table o tables disk t → PartsNamed t apk idsig (Ok parts) → FindsParts tables disk apk idsig own new parts
-    finds new parts new_is p = record { table = t; has = has_it; parts_are = p; new_is = new_is ∙ ap (λ (z : Option Table). with_table z tables disk t) (sym is) }
-
-    pub named : (new : List TableOn) (r : Result (Span × Span) BootCause) (a b : Told) → new ≡ with_table o tables disk t → PartsNamed t apk idsig r → PartsOutcome tables disk apk idsig new r (trace_of own 0 a b)
-    named new (Ok parts) a b new_is p = (refl, finds new parts new_is p)
-    named new (Err why) a b new_is p = lacks why a b p
-
+module _ (tables : List TableOn) (disk : ℕ) where
   -- a table that was read before
-  pub known_before : (t : Table) (a : Told) (r : Result (Span × Span) BootCause) → table_on disk tables ≡ Some t → PartsNamed t apk idsig r → Did (IsTableCall disk) 3 a a (PartsOutcome tables disk apk idsig tables r)
-  known_before t a r is p = did_none _ 3 a _ (named t [] (Some t) is (refl, refl) tables r a a refl p)
+  pub known_before : (place : ℕ) (a : Told) → IsKnown tables disk (Some place) → Did (IsTableCall disk) 3 a a (PlaceOutcome tables disk tables (Ok place))
+  known_before place a k = did_none _ 3 a _ (
+    refl,
+    record {
+      table = k.0.table;
+      has = subst (λ (o : Option Table). HasTable o disk [] k.0.table) (sym k.2) (refl, refl);
+      new_is = ap (λ (o : Option Table). with_table o tables disk k.0.table) (sym k.2);
+      known = k.0;
+      stands = k.1;
+      table_is = refl;
+    },
+  )
 
   -- it was not read
-  unread : (why : BootCause) (u : Trace) → table_on disk tables ≡ None → TableFails disk why u → PartsFail tables disk apk idsig why u
-  unread (NoPart name) u is h = absurd h
+  unread : (why : BootCause) (u : Trace) → table_on disk tables ≡ None → TableFails disk why u → PlaceFails tables disk why u
+  unread (NoPart name) u is h = (is, h)
   unread Memory u is h = (h.0, subst (λ (o : Option Table). HasSoFar o disk u.own) (sym is) h.1)
   unread (Gpt f) u is h = (is, h)
   unread (Apk f) u is h = (is, h)
   unread (File f) u is h = (is, h)
+  unread (Image f) u is h = (is, h)
   unread (Failed faults) u is h = (is, h)
   unread (Short asked got) u is h = (is, h)
 
-  pub not_read : (a b : Told) (why : BootCause) (new : List TableOn) → table_on disk tables ≡ None → Did (IsTableCall disk) 3 a b (TableOutcome disk (Err why)) → Did (IsTableCall disk) 3 a b (PartsOutcome tables disk apk idsig new (Err why))
+  pub not_read : (a b : Told) (why : BootCause) (new : List TableOn) → table_on disk tables ≡ None → Did (IsTableCall disk) 3 a b (TableOutcome disk (Err why)) → Did (IsTableCall disk) 3 a b (PlaceOutcome tables disk new (Err why))
   not_read a b why new is d = did_so _ _ 3 3 a b _ _ d (λ call x. x) (omega arith) (λ u h. unread why u is h)
 
   -- it was read now
-  pub read_lacks : (a b : Told) (k : TableOn) (why : BootCause) (new : List TableOn) → table_on disk tables ≡ None → Did (IsTableCall disk) 3 a b (TableOutcome disk (Ok k)) → PartsNamed k.table apk idsig (Err why)
-      → Did (IsTableCall disk) 3 a b (PartsOutcome tables disk apk idsig new (Err why))
-  read_lacks a b k why new is d p = record {
-    own = d.own;
-    talked = d.talked;
-    calls = d.calls;
-    few = d.few;
-    stops = d.stops;
-    outcome = subst (λ (n : ℕ). PartsFail tables disk apk idsig why (trace_of (heard_of d.own) n a b)) (sym d.outcome.0) (lacks k.table (heard_of d.own) None is d.outcome.2 why a b p);
-  }
-
   added : (k : TableOn) → k.disk ≡ disk → tables ++ k ∷ [] ≡ tables ++ record { disk = disk; table = k.table } ∷ []
   added k e = ap (λ (n : ℕ). tables ++ record { disk = n; table = k.table } ∷ []) e
 
-  pub read_finds : (a b : Told) (k : TableOn) (parts : Span × Span) (new : List TableOn) → table_on disk tables ≡ None → Did (IsTableCall disk) 3 a b (TableOutcome disk (Ok k)) → PartsNamed k.table apk idsig (Ok parts)
-      → new ≡ tables ++ k ∷ [] → Did (IsTableCall disk) 3 a b (PartsOutcome tables disk apk idsig new (Ok parts))
-  read_finds a b k parts new is d p e = record {
-    own = d.own;
-    talked = d.talked;
-    calls = d.calls;
-    few = d.few;
-    stops = d.stops;
-    outcome = (d.outcome.0, finds k.table (heard_of d.own) None is d.outcome.2 new parts (e ∙ added k d.outcome.1) p);
+  placed : (k : TableOn) (new : List TableOn) (place : ℕ) (own : Exchanges) → table_on disk tables ≡ None → new ≡ tables ++ k ∷ [] → place ≡ length tables → k.disk ≡ disk → ReadsTable disk own k.table
+      → IsPlaced tables disk own new place
+  placed k new place own is e at disk_is read = record {
+    table = k.table;
+    has = subst (λ (o : Option Table). HasTable o disk own k.table) (sym is) read;
+    new_is = e ∙ added k disk_is ∙ ap (λ (o : Option Table). with_table o tables disk k.table) (sym is);
+    known = k;
+    stands = subst (λ (n : ℕ). slice_get new n ≡ Some k) (sym at) (subst (λ (z : List TableOn). slice_get z (length tables) ≡ Some k) (sym e) (last_is tables k));
+    table_is = refl;
   }
 
-  pub read_memory : (k : TableOn) (a b : Told) (new : List TableOn) → table_on disk tables ≡ None → Did (IsTableCall disk) 3 a b (TableOutcome disk (Ok k))
-      → Did (IsTableCall disk) 3 a b (PartsOutcome tables disk apk idsig new (Err Memory))
-  read_memory k a b new is d =
+  pub read_now : (a b : Told) (k : TableOn) (new : List TableOn) (place : ℕ) → table_on disk tables ≡ None → Did (IsTableCall disk) 3 a b (TableOutcome disk (Ok k)) → new ≡ tables ++ k ∷ [] → place ≡ length tables
+      → Did (IsTableCall disk) 3 a b (PlaceOutcome tables disk new (Ok place))
+  read_now a b k new place is d e at = did_so _ _ 3 3 a b _ _ d (λ call x. x) (omega arith) (λ u h. (h.0, placed k new place u.own is e at h.1 h.2))
+
+  pub no_room : (k : TableOn) (a b : Told) (new : List TableOn) → table_on disk tables ≡ None → Did (IsTableCall disk) 3 a b (TableOutcome disk (Ok k))
+      → Did (IsTableCall disk) 3 a b (PlaceOutcome tables disk new (Err Memory))
+  no_room k a b new is d =
       did_so _ _ 3 3 a b _ _ d (λ call x. x) (omega arith) (λ u h. (h.0, subst (λ (o : Option Table). HasSoFar o disk u.own) (sym is) (inr (inr (inr h.2.ends)))))
+
+-- ---- what is looked up in it
+
+same_table : (a b : TableOn) → Some a ≡ Some b → a.table ≡ b.table
+same_table a b e = let same : a ≡ b = cc in ap (λ (k : TableOn). k.table) same
+
+module _ {A : Type 0} (tables : List TableOn) (disk : ℕ) (look : Table → Result A (List ℕ)) (new : List TableOn) where
+  looked : (place : ℕ) (t : Trace) (r : Result A BootCause) → t.failed ≡ 0 → (p : IsPlaced tables disk t.own new place) → IsLooked (look p.table) r → FindOutcome tables disk look new r t
+  looked place t (Ok found) none p e = (none, record { table = p.table; has = p.has; found_is = e; new_is = p.new_is })
+  looked place t (Err (NoPart name)) none p e = (none, record { table = p.table; has = p.has; lacks = e })
+  looked place t (Err Memory) none p e = (none, so_far disk (table_on disk tables) t.own p.table p.has)
+  looked place t (Err (Gpt f)) none p e = absurd e
+  looked place t (Err (Apk f)) none p e = absurd e
+  looked place t (Err (File f)) none p e = absurd e
+  looked place t (Err (Image f)) none p e = absurd e
+  looked place t (Err (Failed faults)) none p e = absurd e
+  looked place t (Err (Short asked got)) none p e = absurd e
+
+  pub did_look : (a b : Told) (place : ℕ) (k : TableOn) (r : Result A BootCause) → Did (IsTableCall disk) 3 a b (PlaceOutcome tables disk new (Ok place)) → slice_get new place ≡ Some k → IsLooked (look k.table) r
+      → Did (IsTableCall disk) 3 a b (FindOutcome tables disk look new r)
+  did_look a b place k r d at e = did_so _ _ 3 3 a b _ _ d (λ call x. x) (omega arith) (λ t h.
+      looked place t r h.0 h.1 (subst (λ (z : Table). IsLooked (look z) r) (same_table k h.1.known (sym at ∙ h.1.stands) ∙ h.1.table_is) e))
+
+  no_table : (why : BootCause) (t : Trace) → PlaceFails tables disk why t → FindFails tables disk look why t
+  no_table (NoPart name) t h = absurd h.1
+  no_table Memory t h = h
+  no_table (Gpt f) t h = h
+  no_table (Apk f) t h = h
+  no_table (File f) t h = h
+  no_table (Image f) t h = h
+  no_table (Failed faults) t h = h
+  no_table (Short asked got) t h = h
+
+  pub did_not_look : (a b : Told) (why : BootCause) → Did (IsTableCall disk) 3 a b (PlaceOutcome tables disk new (Err why)) → Did (IsTableCall disk) 3 a b (FindOutcome tables disk look new (Err why))
+  did_not_look a b why d = did_so _ _ 3 3 a b _ _ d (λ call x. x) (omega arith) (no_table why)

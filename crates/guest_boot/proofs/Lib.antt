@@ -3,3 +3,4 @@ pub mod Makes
 pub mod Runs
 pub mod Wordings
 pub mod Plans
+pub mod Instances

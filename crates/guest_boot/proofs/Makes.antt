@@ -19,14 +19,14 @@ use Rattle.ro_file.specs.declared.files.RoFault.TheVariants as files
 use Rattle.ro_file.specs.Files.{MeasuredFile}
 use Rattle.ro_file.specs.Opening.{IsDescriptorCall, OpenFileOutcome}
 use Rattle.guest_boot.specs.declared.faults.BootCause.{BootCause}
-use Rattle.guest_boot.specs.declared.faults.BootCause.TheVariants.{Gpt, NoPart, Apk, File, Failed, Short, Memory}
-use Rattle.guest_boot.specs.Finding.{TableOn, IsTableCall, table_on, HasSoFar, FindsParts, PartsFail, PartsOutcome}
+use Rattle.guest_boot.specs.declared.faults.BootCause.TheVariants.{Gpt, NoPart, Apk, File, Image, Failed, Short, Memory}
+use Rattle.guest_boot.specs.Finding.{TableOn, IsTableCall, table_on, HasSoFar, both_parts, Finds, FindFails, FindOutcome}
 use Rattle.guest_boot.proofs.Finds.{so_far}
 use Rattle.sha_tree.specs.declared.measure.Measure.{Measure}
 use Rattle.sha_tree.specs.Tree.{block_count}
 use Rattle.guest_plan.specs.Spelling.{IsDevice}
 use Rattle.verity_path.specs.declared.device.Device.{Device}
-use Rattle.guest_boot.specs.Booting.{IsItem, AreItems, device_on, Booted, measure_in, IsForApk, ApkBoots, ApkFails, ApkIsRefused, apk_cause, BlobOutcome, FileFails, file_cause, FileOutcome, LineOutcome, IsForLine, most_of_line, ApkOutcome}
+use Rattle.guest_boot.specs.Booting.{IsItem, AreItems, device_on, Booted, measure_in, IsForApk, ApkBoots, ApkFails, ApkIsRefused, apk_cause, BlobOutcome, FileFails, file_cause, FileOutcome, LineOutcome, IsForLine, most_in_place, ApkOutcome}
 
 fits : (m : ℕ) → block_count (4096 * m) ≡ m
 fits m = omega arith
@@ -63,34 +63,35 @@ module _ (o : Opening) (a b c : Told) (y : Exchanges) (failed : ℕ) (le : a.fau
   open_later apks.Memory q = (q.0, scarce_later a b c [] y failed q.1)
 
 module _ (s : Booted) (disk : ℕ) (apk idsig : List ℕ) (how : How) where
-  no_parts : (why : BootCause) (t : Trace) → PartsFail s.tables disk apk idsig why t → ApkFails s disk apk idsig how why t
+  no_parts : (why : BootCause) (t : Trace) → FindFails s.tables disk (both_parts apk idsig) why t → ApkFails s disk apk idsig how why t
   no_parts (Gpt f) t h = h
   no_parts (NoPart name) t h = h
   no_parts (Apk f) t h = absurd h.1
   no_parts (File f) t h = h
+  no_parts (Image f) t h = h
   no_parts (Failed faults) t h = h
   no_parts (Short asked got) t h = h
   no_parts Memory t h = (h.0, inl h.1)
 
-  pub apk_no_parts : (a b : Told) (why : BootCause) (tables : List TableOn) (new : Booted) → Did (IsTableCall disk) 3 a b (PartsOutcome s.tables disk apk idsig tables (Err why))
+  pub apk_no_parts : (a b : Told) (why : BootCause) (tables : List TableOn) (new : Booted) → Did (IsTableCall disk) 3 a b (FindOutcome s.tables disk (both_parts apk idsig) tables (Err why))
       → Did (IsForApk disk) 4 a b (ApkOutcome s disk apk idsig how new (Err why))
   apk_no_parts a b why tables new d = did_so _ _ 3 4 a b _ _ d (λ call is. inl is) (omega arith) (no_parts why)
 
   module _ (a b c : Told) (tables : List TableOn) (parts : Span × Span) (o : Opening) (o_is : o ≡ opening disk parts.0 parts.1 (measure_in how))
-      (d : Did (IsTableCall disk) 3 a b (PartsOutcome s.tables disk apk idsig tables (Ok parts))) where
+      (d : Did (IsTableCall disk) 3 a b (FindOutcome s.tables disk (both_parts apk idsig) tables (Ok parts))) where
     for_idsig : (call : Call) → IsIdsigCall o call → IsForApk disk call
     for_idsig call is = inr (parts.1, is.call_is ∙ ap idsig_call o_is)
 
     both : (P R : Trace → Type 0) → Did (IsIdsigCall o) 1 b c P
-        → ((x y : Exchanges) (failed : ℕ) → a.faults ≤ b.faults → FindsParts s.tables disk apk idsig x tables parts → P (trace_of y failed b c) → R (trace_of (x ++ y) failed a c))
+        → ((x y : Exchanges) (failed : ℕ) → a.faults ≤ b.faults → Finds s.tables disk (both_parts apk idsig) x tables parts → P (trace_of y failed b c) → R (trace_of (x ++ y) failed a c))
         → Did (IsForApk disk) 4 a c R
     both P R e f = did_then (IsForApk disk) 3 1 a b c _ P R (did_so _ _ 3 3 a b _ _ d (λ call is. inl is) (omega arith) (λ t p. p)) (did_so _ _ 1 1 b c _ _ e for_idsig (omega arith) (λ t p. p)) (λ t p. p.0) (λ x y failed le p q. f x y failed le p.1 q)
 
-    refused : (f : ApkFault) (x y : Exchanges) (failed : ℕ) → a.faults ≤ b.faults → FindsParts s.tables disk apk idsig x tables parts → OpenOutcome o (Err f) (trace_of y failed b c)
+    refused : (f : ApkFault) (x y : Exchanges) (failed : ℕ) → a.faults ≤ b.faults → Finds s.tables disk (both_parts apk idsig) x tables parts → OpenOutcome o (Err f) (trace_of y failed b c)
         → ApkIsRefused s disk apk idsig how f (trace_of (x ++ y) failed a c)
     refused f x y failed le p q = record { first = x; rest = y; cut = refl; tables = tables; parts = parts; found = p; outcome = subst (λ (z : Opening). OpenOutcome z (Err f) (trace_of y failed a c)) o_is (open_later o a b c y failed le f q) }
 
-    found_so_far : (first own : Exchanges) (tables2 : List TableOn) (parts2 : Span × Span) → FindsParts s.tables disk apk idsig first tables2 parts2 → own ≡ first → HasSoFar (table_on disk s.tables) disk own
+    found_so_far : (first own : Exchanges) (tables2 : List TableOn) (parts2 : Span × Span) → Finds s.tables disk (both_parts apk idsig) first tables2 parts2 → own ≡ first → HasSoFar (table_on disk s.tables) disk own
     found_so_far first own tables2 parts2 p e = subst (HasSoFar (table_on disk s.tables) disk) (sym e) (so_far disk (table_on disk s.tables) first p.table p.has)
 
     named : (f : ApkFault) (t : Trace) → ApkIsRefused s disk apk idsig how f t → ApkFails s disk apk idsig how (apk_cause f) t
@@ -107,7 +108,7 @@ module _ (s : Booted) (disk : ℕ) (apk idsig : List ℕ) (how : How) where
     pub apk_refused : (new : Booted) (f : ApkFault) → Did (IsIdsigCall o) 1 b c (OpenOutcome o (Err f)) → Did (IsForApk disk) 4 a c (ApkOutcome s disk apk idsig how new (Err (apk_cause f)))
     apk_refused new f e = both _ _ e (λ x y failed le p q. named f _ (refused f x y failed le p q))
 
-    boots : (new : Booted) (device : Device) (x y : Exchanges) (failed : ℕ) → new ≡ record { tables = tables; items = s.items ++ device ∷ []; files = s.files } → FindsParts s.tables disk apk idsig x tables parts
+    boots : (new : Booted) (device : Device) (x y : Exchanges) (failed : ℕ) → new ≡ record { tables = tables; items = s.items ++ device ∷ []; files = s.files; image = s.image } → Finds s.tables disk (both_parts apk idsig) x tables parts
         → IsOpened o (Ok device) (trace_of y failed b c) → ApkBoots s disk apk idsig how (x ++ y) new
     boots new device x y failed e p q = record {
       first = x;
@@ -121,13 +122,13 @@ module _ (s : Booted) (disk : ℕ) (apk idsig : List ℕ) (how : How) where
       new_is = e;
     }
 
-    pub apk_boots : (new : Booted) (device : Device) → new ≡ record { tables = tables; items = s.items ++ device ∷ []; files = s.files } → Did (IsIdsigCall o) 1 b c (OpenOutcome o (Ok device))
+    pub apk_boots : (new : Booted) (device : Device) → new ≡ record { tables = tables; items = s.items ++ device ∷ []; files = s.files; image = s.image } → Did (IsIdsigCall o) 1 b c (OpenOutcome o (Ok device))
         → Did (IsForApk disk) 4 a c (ApkOutcome s disk apk idsig how new (Ok tt))
     apk_boots new device e d2 = both _ _ d2 (λ x y failed le p q. (q.failed, boots new device x y failed e p q))
 
     -- the device was made, and the list of devices had no room for it
     pub apk_memory : (new : Booted) (device : Device) → Did (IsIdsigCall o) 1 b c (OpenOutcome o (Ok device)) → Did (IsForApk disk) 4 a c (ApkOutcome s disk apk idsig how new (Err Memory))
-    apk_memory new device e = both _ _ e (λ x y failed le p q. (q.failed, inr (_, boots (record { tables = tables; items = s.items ++ device ∷ []; files = s.files }) device x y failed refl p q)))
+    apk_memory new device e = both _ _ e (λ x y failed le p q. (q.failed, inr (_, boots (record { tables = tables; items = s.items ++ device ∷ []; files = s.files; image = s.image }) device x y failed refl p q)))
 
 -- ---- a file
 
@@ -150,7 +151,10 @@ module _ (file : ℕ) (digest : Digest) (s new : Booted) (a b : Told) where
 -- ---- lines
 
 abbrev DidLine : Booted → Booted → Told → Told → Result (Unit {0}) BootCause → PlanLine → Type 0
-DidLine s new a b r l = Did (IsForLine l) (most_of_line l) a b (LineOutcome s l new r)
+DidLine s new a b r l = Did (IsForLine l) (most_in_place l) a b (LineOutcome s l new r)
+
+pub did_instance : (s : Booted) (disk : ℕ) (part : List ℕ) (a : Told) → DidLine s s a a (Ok tt) (line.Instance disk part)
+did_instance s disk part a = did_none _ 0 a _ (refl, (refl, refl))
 
 pub did_blob : (s new : Booted) (file : ℕ) (m : Measure) (a : Told) (r : Result (Unit {0}) BootCause) → BlobOutcome s file m new r → DidLine s new a a r (line.Blob file m)
 did_blob s new file m a (Ok u) e = did_none _ 0 a _ (refl, (refl, e))
@@ -170,5 +174,5 @@ file_line s new name file digest (Err why) t h = h
 pub did_file : (s new : Booted) (name : List ℕ) (file : ℕ) (digest : Digest) (a b : Told) (r : Result (Unit {0}) BootCause) → Did (IsDescriptorCall file) 1 a b (FileOutcome s file digest new r) → DidLine s new a b r (line.File name file digest)
 did_file s new name file digest a b r d = did_so _ _ 1 1 a b _ _ d (λ call x. x) (omega arith) (file_line s new name file digest r)
 
-pub did_line : (s new : Booted) (a b : Told) (r : Result (Unit {0}) BootCause) (l k : PlanLine) → l ≡ k → DidLine s new a b r k → Did (IsForLine l) (most_of_line l) a b (LineOutcome s l new r)
+pub did_line : (s new : Booted) (a b : Told) (r : Result (Unit {0}) BootCause) (l k : PlanLine) → l ≡ k → DidLine s new a b r k → Did (IsForLine l) (most_in_place l) a b (LineOutcome s l new r)
 did_line s new a b r l k is d = subst (DidLine s new a b r) (sym is) d

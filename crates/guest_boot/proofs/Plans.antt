@@ -1,15 +1,19 @@
 -- From a plan in the grammar to its lines.
-use Rattle.std.proofs.Common.{if◌then◌else◌, ◌≡◌, ℕ, ◌+◌, List, [], ◌∷◌, ◌++◌, refl, subst, Bool, true, false, Ok, Err, Result}
-use Rattle.std.specs.List.{AllByRecursion}
+use Rattle.std.proofs.Common.{if◌then◌else◌, ◌≡◌, ℕ, zero, suc, ◌+◌, ◌<◌, ◌∙◌, get_or, List, [], ◌∷◌, ◌++◌, length, refl, ap, sym, subst, arith, Bool, true, false, ◌||◌, Option, Some, None, is_some, Ok, Err, Result}
+use Rattle.std.specs.Prelude.{slice_get, not, ◌&&◌}
+use Rattle.std.specs.List.{AllByRecursion, list_any}
+use Rattle.std.proofs.lemmas.List.{length-append}
+use Rattle.host_traits.specs.Told.{Exchanges}
 use Rattle.text_lines.specs.declared.kinds.PlanKind.{PlanKind}
 use Rattle.text_lines.specs.Fields.{◌>>=◌}
 use Rattle.text_lines.specs.Spelling.{collect}
 use Rattle.guest_plan.specs.declared.plan.PlanLine.{PlanLine}
+use Rattle.guest_plan.specs.declared.plan.PlanLine.TheVariants as line
 use Rattle.guest_plan.specs.declared.plan.Item.{Item}
 use Rattle.guest_plan.specs.declared.plan.Item.TheVariants.{Secret, InstanceSalt, Line}
-use Rattle.guest_plan.specs.Plans.{Known, nothing, add}
+use Rattle.guest_plan.specs.Plans.{Known, nothing, add, clash, is_instance, first_lacking, has_keys, has_instance, is_kept}
 use Rattle.guest_plan.specs.Spelling.{IsPlan, IsServed, IsItem as IsSaid}
-use Rattle.guest_boot.specs.Booting.{AreServed}
+use Rattle.guest_boot.specs.Booting.{AreServed, PlansAreNumbered, InstanceLine, instance_from, IsSalted, PlansAreSalted, InstanceIsAlone, Booted, LineBoots, ImagesStay}
 
 served_push : (lines : List PlanLine) (l : PlanLine) → AreServed lines → IsServed l → AreServed (lines ++ l ∷ [])
 served_push [] l s one = (one, tt)
@@ -41,3 +45,175 @@ collected n k later (item ∷ items) s each e =
 
 pub plan_served : (text : List ℕ) (k : Known) → IsPlan text k → AreServed k.lines
 plan_served text k p = collected 2 nothing k p.items.items tt p.items.each p.items.says
+
+-- the line at a place is in the grammar
+pub served_at : (lines : List PlanLine) (i : ℕ) (l : PlanLine) → AreServed lines → i < length lines → l ≡ get_or lines i l → IsServed l
+served_at [] i l s lt is = absurd (omega (arith, lt))
+served_at (x ∷ lines) zero l s lt is = subst IsServed (sym is) s.0
+served_at (x ∷ lines) (suc i) l s lt is = served_at lines i l s.1 (omega (arith, lt)) is
+
+-- ---- a number for each line
+
+lengths_more : (a b : ℕ) → a ≡ b → a + 1 ≡ b + 1
+lengths_more a b e = omega (arith, e)
+
+numbered_by : (k later : Known) (n : ℕ) (item : Item) → length k.numbers ≡ length k.lines → add k n item ≡ Ok later → length later.numbers ≡ length later.lines
+unfolding add
+numbered_by k later n (Secret bytes) s e = subst (λ (z : Known). length z.numbers ≡ length z.lines) (chosen _ _ _ _ e) s
+numbered_by k later n (InstanceSalt bytes) s e = subst (λ (z : Known). length z.numbers ≡ length z.lines) (chosen _ _ _ _ e) s
+numbered_by k later n (Line l) s e =
+    subst (λ (z : Known). length z.numbers ≡ length z.lines) (chosen _ _ _ _ e) (length-append k.numbers (n ∷ []) ∙ (lengths_more _ _ s ∙ sym (length-append k.lines (l ∷ []))))
+
+numbered : (n : ℕ) (k later : Known) (items : List Item) → length k.numbers ≡ length k.lines → collect add n k items ≡ Ok later → length later.numbers ≡ length later.lines
+unfolding collect
+numbered n k later [] s e = let same : k ≡ later = cc in subst (λ (z : Known). length z.numbers ≡ length z.lines) same s
+numbered n k later (item ∷ items) s e =
+    let b = bound (add k n item) _ later e in
+    numbered (n + 1) b.0 later items (numbered_by k b.0 n item s b.1) b.2
+
+pub plan_numbered : PlansAreNumbered
+plan_numbered text k p = numbered 2 nothing k p.items.items refl p.items.says
+
+-- ---- the instance line has a salt
+
+rest_none : (b : Bool) (n : ℕ) (r : Option ℕ) → (if b then Some n else r) ≡ None → (b ≡ false) × (r ≡ None)
+rest_none true n r e = absurd cc
+rest_none false n r e = (refl, e)
+
+not_false : (b : Bool) → not b ≡ false → b ≡ true
+not_false true e = refl
+not_false false e = absurd cc
+
+second_true : (a b : Bool) → (a && b) ≡ true → b ≡ true
+second_true true b e = e
+second_true false b e = absurd cc
+
+salt_there : (i : InstanceLine) (salt : Option (List ℕ)) → is_some salt ≡ true → IsSalted (Some i) salt
+salt_there i None e = absurd cc
+salt_there i (Some bytes) e = tt
+
+salted_from : (n : ℕ) (salt : Option (List ℕ)) (keyed there : Bool) (lines : List PlanLine) (numbers : List ℕ) → length numbers ≡ length lines → first_lacking keyed there lines numbers ≡ None
+    → (keyed ≡ true → is_some salt ≡ true) → IsSalted (instance_from n lines) salt
+unfolding instance_from
+salted_from n salt keyed there [] numbers even e f = tt
+salted_from n salt keyed there (l ∷ lines) [] even e f = absurd (omega (arith, even))
+salted_from n salt keyed there (line.Instance disk part ∷ lines) (m ∷ numbers) even e f = salt_there (record { at = n; disk = disk; part = part }) salt (f (not_false keyed (rest_none (not keyed) m (first_lacking keyed there lines numbers) e).0))
+salted_from n salt keyed there (line.Blob file measure ∷ lines) (m ∷ numbers) even e f = salted_from (n + 1) salt keyed there lines numbers (omega (arith, even)) e f
+salted_from n salt keyed there (line.Apk disk apk idsig how ∷ lines) (m ∷ numbers) even e f = salted_from (n + 1) salt keyed there lines numbers (omega (arith, even)) (rest_none (is_kept how && not there) m (first_lacking keyed there lines numbers) e).1 f
+salted_from n salt keyed there (line.File name file digest ∷ lines) (m ∷ numbers) even e f = salted_from (n + 1) salt keyed there lines numbers (omega (arith, even)) e f
+salted_from n salt keyed there (line.Write name file ∷ lines) (m ∷ numbers) even e f = salted_from (n + 1) salt keyed there lines numbers (omega (arith, even)) e f
+salted_from n salt keyed there (line.WriteDir name file ∷ lines) (m ∷ numbers) even e f = salted_from (n + 1) salt keyed there lines numbers (omega (arith, even)) e f
+
+pub plan_salted : PlansAreSalted
+plan_salted text k p = salted_from 0 k.salt (has_keys k) (has_instance k) k.lines k.numbers (plan_numbered text k p) p.complete (second_true (is_some k.secret) (is_some k.salt))
+
+-- ---- it is the only one
+
+-- no instance line follows one
+abbrev Single : List PlanLine → Type 0
+Single [] = Unit {0}
+Single (l ∷ lines) = (is_instance l ≡ true → list_any is_instance lines ≡ false) × Single lines
+
+either_off : (a b : Bool) → (a || b) ≡ false → (a ≡ false) × (b ≡ false)
+either_off true b e = absurd cc
+either_off false b e = (refl, e)
+
+not_both : (b : Bool) → b ≡ true → b ≡ false → ⊥
+not_both true e f = cc
+not_both false e f = cc
+
+none_push : (lines : List PlanLine) (l : PlanLine) → list_any is_instance lines ≡ false → is_instance l ≡ false → list_any is_instance (lines ++ l ∷ []) ≡ false
+none_push [] l none one = rw one refl
+none_push (x ∷ lines) l none one = let off = either_off (is_instance x) (list_any is_instance lines) none in rw off.0 (none_push lines l off.1 one)
+
+is_off : (b : Bool) → (b ≡ true → ⊥) → b ≡ false
+is_off true f = absurd (f refl)
+is_off false f = refl
+
+single_push : (lines : List PlanLine) (l : PlanLine) → Single lines → (is_instance l ≡ true → list_any is_instance lines ≡ false) → Single (lines ++ l ∷ [])
+single_push [] l s one = ((λ e. refl), tt)
+single_push (x ∷ lines) l s one = (
+  (λ e. none_push lines l (s.0 e) (is_off (is_instance l) (λ f. not_both (is_instance x) e (either_off (is_instance x) (list_any is_instance lines) (one f)).0))),
+  single_push lines l s.1 (λ f. (either_off (is_instance x) (list_any is_instance lines) (one f)).1),
+)
+
+passed : {K : Type 0} (b : Bool) (fault : PlanKind) (x later : K) → (if b then Err fault else Ok x) ≡ Ok later → b ≡ false
+passed true fault x later e = absurd cc
+passed false fault x later e = refl
+
+no_other : (l : PlanLine) (lines : List PlanLine) → list_any (clash l) lines ≡ false → is_instance l ≡ true → list_any is_instance lines ≡ false
+no_other (line.Instance disk part) lines none e = none
+no_other (line.Blob file m) lines none e = absurd cc
+no_other (line.Apk disk apk idsig how) lines none e = absurd cc
+no_other (line.File name file digest) lines none e = absurd cc
+no_other (line.Write name file) lines none e = absurd cc
+no_other (line.WriteDir name file) lines none e = absurd cc
+
+single_added : (k later : Known) (n : ℕ) (item : Item) → Single k.lines → add k n item ≡ Ok later → Single later.lines
+unfolding add
+single_added k later n (Secret bytes) s e = subst (λ (z : Known). Single z.lines) (chosen _ _ _ _ e) s
+single_added k later n (InstanceSalt bytes) s e = subst (λ (z : Known). Single z.lines) (chosen _ _ _ _ e) s
+single_added k later n (Line l) s e = subst (λ (z : Known). Single z.lines) (chosen _ _ _ _ e) (single_push k.lines l s (no_other l k.lines (passed _ _ _ _ e)))
+
+single : (n : ℕ) (k later : Known) (items : List Item) → Single k.lines → collect add n k items ≡ Ok later → Single later.lines
+unfolding collect
+single n k later [] s e = let same : k ≡ later = cc in subst (λ (z : Known). Single z.lines) same s
+single n k later (item ∷ items) s e =
+    let b = bound (add k n item) _ later e in
+    single (n + 1) b.0 later items (single_added k b.0 n item s b.1) b.2
+
+none_at : (lines : List PlanLine) (k disk : ℕ) (part : List ℕ) → list_any is_instance lines ≡ false → slice_get lines k ≡ Some (line.Instance disk part) → ⊥
+none_at [] k disk part none at = cc
+none_at (x ∷ lines) zero disk part none at =
+    let same : x ≡ line.Instance disk part = cc in
+    not_both (is_instance x) (ap is_instance same) (either_off (is_instance x) (list_any is_instance lines) none).0
+none_at (x ∷ lines) (suc k) disk part none at = none_at lines k disk part (either_off (is_instance x) (list_any is_instance lines) none).1 at
+
+moved : (n k disk : ℕ) (part : List ℕ) (o : Option InstanceLine) → o ≡ Some (record { at = n + 1 + k; disk = disk; part = part }) → o ≡ Some (record { at = n + suc k; disk = disk; part = part })
+moved n k disk part o e =
+    let same : n + 1 + k ≡ n + suc k = omega arith in
+    subst (λ (z : ℕ). o ≡ Some (record { at = z; disk = disk; part = part })) same e
+
+at_once : (n : ℕ) (d disk : ℕ) (p part : List ℕ) → ◌≡◌ {A = Option PlanLine} (Some (line.Instance d p)) (Some (line.Instance disk part))
+    → ◌≡◌ {A = Option InstanceLine} (Some (record { at = n; disk = d; part = p })) (Some (record { at = n + 0; disk = disk; part = part }))
+at_once n d disk p part e =
+    let one : d ≡ disk = cc in
+    let two : p ≡ part = cc in
+    let here : n ≡ n + 0 = omega arith in
+    let made : ℕ → ℕ → List ℕ → Option InstanceLine = λ a b c. Some (record { at = a; disk = b; part = c }) in
+    ap (λ (z : ℕ). made z d p) here ∙ ap (λ (z : ℕ). made (n + 0) z p) one ∙ ap (λ (z : List ℕ). made (n + 0) disk z) two
+
+alone_from : (n : ℕ) (lines : List PlanLine) (k disk : ℕ) (part : List ℕ) → Single lines → slice_get lines k ≡ Some (line.Instance disk part) → instance_from n lines ≡ Some (record { at = n + k; disk = disk; part = part })
+unfolding instance_from
+alone_from n [] k disk part s at = absurd cc
+alone_from n (line.Instance d p ∷ lines) zero disk part s at = at_once n d disk p part at
+alone_from n (line.Instance d p ∷ lines) (suc k) disk part s at = absurd (none_at lines k disk part (s.0 refl) at)
+alone_from n (line.Blob file m ∷ lines) zero disk part s at = absurd cc
+alone_from n (line.Blob file m ∷ lines) (suc k) disk part s at = moved n k disk part _ (alone_from (n + 1) lines k disk part s.1 at)
+alone_from n (line.Apk d apk idsig how ∷ lines) zero disk part s at = absurd cc
+alone_from n (line.Apk d apk idsig how ∷ lines) (suc k) disk part s at = moved n k disk part _ (alone_from (n + 1) lines k disk part s.1 at)
+alone_from n (line.File name file digest ∷ lines) zero disk part s at = absurd cc
+alone_from n (line.File name file digest ∷ lines) (suc k) disk part s at = moved n k disk part _ (alone_from (n + 1) lines k disk part s.1 at)
+alone_from n (line.Write name file ∷ lines) zero disk part s at = absurd cc
+alone_from n (line.Write name file ∷ lines) (suc k) disk part s at = moved n k disk part _ (alone_from (n + 1) lines k disk part s.1 at)
+alone_from n (line.WriteDir name file ∷ lines) zero disk part s at = absurd cc
+alone_from n (line.WriteDir name file ∷ lines) (suc k) disk part s at = moved n k disk part _ (alone_from (n + 1) lines k disk part s.1 at)
+
+pub alone : InstanceIsAlone
+alone text plan at disk part p stands =
+    let same : 0 + at ≡ at = omega arith in
+    subst (λ (k : ℕ). instance_from 0 plan.lines ≡ Some (record { at = k; disk = disk; part = part })) same (alone_from 0 plan.lines at disk part (single 2 nothing plan p.items.items tt p.items.says) stands)
+
+-- ---- no line changes the image
+
+line_stays : (s : Booted) (l : PlanLine) (own : Exchanges) (new : Booted) → LineBoots s l own new → new.image ≡ s.image
+line_stays s (line.Instance disk part) own new b = ap (λ (z : Booted). z.image) b.1
+line_stays s (line.Blob file m) own new b = ap (λ (z : Booted). z.image) b.1
+line_stays s (line.Apk disk apk idsig how) own new b = ap (λ (z : Booted). z.image) b.new_is
+line_stays s (line.File name file digest) own new b = ap (λ (z : Booted). z.image) b.new_is
+line_stays s (line.Write name file) own new b = absurd b
+line_stays s (line.WriteDir name file) own new b = absurd b
+
+pub stays : ImagesStay
+stays s [] own new b = ap (λ (z : Booted). z.image) b.1
+stays s (l ∷ lines) own new b = stays b.2 lines b.1 new b.5 ∙ line_stays s l b.0 b.2 b.4

@@ -60,6 +60,10 @@ AreServed lines = AllByRecursion IsServed lines
 abbrev pub PlansAreServed : Type 0
 PlansAreServed = (text : List ℕ) (plan : Known) → IsPlan text plan → AreServed plan.lines
 
+-- Law: each of them has a number in the text.
+abbrev pub PlansAreNumbered : Type 0
+PlansAreNumbered = (text : List ℕ) (plan : Known) → IsPlan text plan → length plan.numbers ≡ length plan.lines
+
 -- ---- the instance line
 
 -- how many lines stand before it, and what it says

@@ -1,5 +1,5 @@
 // The instance line of a plan, opened before its lines.
-ghost use Rattle.std.specs.Prelude.{◌≡◌, MatchOption, None, Some};
+ghost use Rattle.std.specs.Prelude.{◌≡◌, ℕ, List, [], MatchOption, None, Some};
 ghost use Rattle.host_traits.specs.Did.{Did};
 ghost use Rattle.guest_plan.specs.Plans.{known};
 ghost use Rattle.guest_plan.specs.Spelling.{IsPlan};

@@ -177,9 +177,10 @@ fn table_for<H: Host>(
     };
     let place = tables.len();
     match tables.push(table) {
-        Ok(()) => Ok(place),
-        Err(_) => Err(BootCause::Memory),
+        Ok(()) => {}
+        Err(_) => return Err(BootCause::Memory),
     }
+    Ok(place)
 }
 
 // The cause of a part that isn't there.

@@ -5,12 +5,12 @@ use Rattle.guest_boot.proofs.Makes.{apk_no_parts, apk_memory, apk_refused, apk_b
 use Rattle.guest_boot.proofs.lines.boot_apk.Goals as goal
 
 pub returns-in-Err-clause-did : goal.returns-in-Err-clause-did
-returns-in-Err-clause-did g c = apk_no_parts (state_of c.args.boot.now) c.args.disk c.args.apk.now c.args.idsig.now c.args.how.now _ _ c.in-Err.why c.parts_on.new.tables.items (state_of (record { tables = c.parts_on.new.tables; items = c.args.boot.now.items; files = c.args.boot.now.files })) c.in-Err.ensures.did
+returns-in-Err-clause-did g c = apk_no_parts (state_of c.args.boot.now) c.args.disk c.args.apk.now c.args.idsig.now c.args.how.now _ _ c.in-Err.why c.parts_on.new.tables.items (state_of (record { tables = c.parts_on.new.tables; items = c.args.boot.now.items; files = c.args.boot.now.files; image = c.args.boot.now.image })) c.in-Err.ensures.did
 
 pub returns-in-Err-open_apk-clause-did : goal.returns-in-Err-open_apk-clause-did
 returns-in-Err-open_apk-clause-did g c =
     rw c.apk_cause.ensures (apk_refused (state_of c.args.boot.now) c.args.disk c.args.apk.now c.args.idsig.now c.args.how.now _ _ _ _ c.in-Ok.parts _
-    (ap (opening c.args.disk c.in-Ok.parts.0 c.in-Ok.parts.1) (copied_is _ _ c.measure_in.ensures.value)) c.in-Ok.ensures.did (state_of (record { tables = c.parts_on.new.tables; items = c.args.boot.now.items; files = c.args.boot.now.files })) c.in-Err-open_apk.fault c.in-Err-open_apk.ensures.opened)
+    (ap (opening c.args.disk c.in-Ok.parts.0 c.in-Ok.parts.1) (copied_is _ _ c.measure_in.ensures.value)) c.in-Ok.ensures.did (state_of (record { tables = c.parts_on.new.tables; items = c.args.boot.now.items; files = c.args.boot.now.files; image = c.args.boot.now.image })) c.in-Err-open_apk.fault c.in-Err-open_apk.ensures.opened)
 
 pub returns-in-Ok-push-clause-did : goal.returns-in-Ok-push-clause-did
 returns-in-Ok-push-clause-did g c =
@@ -25,7 +25,7 @@ returns-in-Ok-push-clause-items g c =
 pub returns-in-Err-push-clause-did : goal.returns-in-Err-push-clause-did
 returns-in-Err-push-clause-did g c =
     apk_memory (state_of c.args.boot.now) c.args.disk c.args.apk.now c.args.idsig.now c.args.how.now _ _ _ c.parts_on.new.tables.items c.in-Ok.parts _
-    (ap (opening c.args.disk c.in-Ok.parts.0 c.in-Ok.parts.1) (copied_is _ _ c.measure_in.ensures.value)) c.in-Ok.ensures.did (state_of (record { tables = c.parts_on.new.tables; items = c.push.new.self; files = c.args.boot.now.files })) c.in-Ok-open_apk.device c.in-Ok-open_apk.ensures.opened
+    (ap (opening c.args.disk c.in-Ok.parts.0 c.in-Ok.parts.1) (copied_is _ _ c.measure_in.ensures.value)) c.in-Ok.ensures.did (state_of (record { tables = c.parts_on.new.tables; items = c.push.new.self; files = c.args.boot.now.files; image = c.args.boot.now.image })) c.in-Ok-open_apk.device c.in-Ok-open_apk.ensures.opened
 
 pub returns-in-Err-push-clause-items : goal.returns-in-Err-push-clause-items
 returns-in-Err-push-clause-items g c = subst AreItems (sym c.in-Err-push.ensures.items) c.requires.items

@@ -8,4 +8,4 @@ returns-in-Err-clause-did g c =
 
 pub returns-in-Err-push-clause-did : goal.returns-in-Err-push-clause-did
 returns-in-Err-push-clause-did g c =
-    file_memory c.args.file c.args.digest.now (state_of c.args.boot.now) (state_of (record { tables = c.args.boot.now.tables; items = c.args.boot.now.items; files = c.push.new.self })) _ _ c.in-Ok.opened c.in-Ok.ensures.did
+    file_memory c.args.file c.args.digest.now (state_of c.args.boot.now) (state_of (record { tables = c.args.boot.now.tables; items = c.args.boot.now.items; files = c.push.new.self; image = c.args.boot.now.image })) _ _ c.in-Ok.opened c.in-Ok.ensures.did

@@ -1,24 +1,51 @@
-use Rattle.std.proofs.Common.{◌<◌, length, refl, arith}
-use Rattle.std.proofs.lemmas.Option.{slice_get-get_or}
-use Rattle.host_traits.proofs.Doing.{did_none}
-use Rattle.guest_boot.specs.Booting.{IsForLines, state_of}
-use Rattle.guest_boot.proofs.Runs.{goes_on, stops}
+use Rattle.std.proofs.Common.{◌≡◌, ◌<◌, ◌≤◌, length, refl, arith}
+use Rattle.std.proofs.lemmas.Option.{slice_get_read}
+use Rattle.guest_plan.specs.Plans.{known}
+use Rattle.guest_boot.specs.Booting.{state_of}
+use Rattle.guest_boot.proofs.Plans.{plan_served, plan_numbered, served_at}
+use Rattle.guest_boot.proofs.Runs.{not_begun, begins, goes_on, stops, ends}
 use Rattle.guest_boot.proofs.lines.open_lines.Goals as goal
 
 pub returns-in-Err-clause-booted : goal.returns-in-Err-clause-booted
 returns-in-Err-clause-booted g c =
-    let within : c.loop-index.index < length c.args.numbers.now = omega (arith, c.requires.numbers, c.loop-index-test.true) in
-    stops c.args.lines.now c.loop-index.index c.index-lines-index.result c.loop-index-test.true c.index-lines-index.is _ _ _ (state_of c.loop-index.boot) c.loop-index.invariant.booted
-    c.args.numbers.now _ c.in-Err.why (state_of c.boot_line.new.boot) (slice_get-get_or c.args.numbers.now c.loop-index.index 0 within) c.in-Err.ensures.did
-
-pub loop-index-preserved : goal.loop-index-preserved
-loop-index-preserved g c = record {
-  booted = goes_on c.args.lines.now c.loop-index.index c.index-lines-index.result c.loop-index-test.true c.index-lines-index.is _ _ _ (state_of c.loop-index.boot) c.loop-index.invariant.booted _ _ c.in-Ok.ensures.did;
-  items = c.in-Ok.ensures.items;
-}
+    not_begun c.args.plan.now.salt c.args.plan.now.lines.items c.args.plan.now.numbers.items _ _ c.open_instance.new.tables.items c.in-Err.fault c.in-Err.ensures
 
 pub loop-index-init : goal.loop-index-init
-loop-index-init g c = rw (c.new.ensures.items, c.new-2.ensures.items, c.new-3.ensures.items) (record {
-  booted = did_none (IsForLines c.args.lines.now) _ _ _ (refl, (refl, refl));
+loop-index-init g c = rw (c.new.ensures.items, c.new-2.ensures.items) (record {
+  booted = begins c.args.plan.now.salt c.args.plan.now.lines.items c.args.plan.now.numbers.items _ _ c.open_instance.new.tables.items c.in-Ok.image c.in-Ok.ensures;
   items = λ k it at. cc;
 })
+
+pub boot_line-requires-clause-served : goal.boot_line-requires-clause-served
+boot_line-requires-clause-served g c =
+    let inside : c.loop-index.index < length c.args.plan.now.lines.items = omega (arith, c.args.plan.now.lines.ok, c.loop-index-test.true) in
+    served_at c.args.plan.now.lines.items c.loop-index.index c.index.result.now (plan_served c.requires.plan.0 (known c.args.plan.now) c.requires.plan.1) inside c.index.ensures
+
+pub index-line-requires : goal.index-line-requires
+index-line-requires g c =
+    let even = plan_numbered c.requires.plan.0 (known c.args.plan.now) c.requires.plan.1 in
+    omega (arith, even, c.args.plan.now.numbers.ok, c.args.plan.now.lines.ok, c.loop-index-test.true)
+
+pub returns-in-Err-boot_line-clause-booted : goal.returns-in-Err-boot_line-clause-booted
+returns-in-Err-boot_line-clause-booted g c =
+    let lines = c.args.plan.now.lines.items in
+    let numbers = c.args.plan.now.numbers.items in
+    let even : length numbers ≡ length lines = plan_numbered c.requires.plan.0 (known c.args.plan.now) c.requires.plan.1 in
+    let inside : c.loop-index.index < length lines = omega (arith, c.args.plan.now.lines.ok, c.loop-index-test.true) in
+    stops c.args.plan.now.salt lines c.loop-index.index c.index.result.now inside c.index.ensures _ _ _ (state_of c.loop-index.boot) c.loop-index.invariant.booted
+    numbers c.index-line.result.now c.in-Err-boot_line.why (state_of c.boot_line.new.boot) (slice_get_read numbers (length numbers) c.loop-index.index c.index-line.result.now refl (omega (arith, even, inside)) c.index-line.ensures) c.in-Err-boot_line.ensures.did
+
+pub loop-index-preserved : goal.loop-index-preserved
+loop-index-preserved g c =
+    let lines = c.args.plan.now.lines.items in
+    let inside : c.loop-index.index < length lines = omega (arith, c.args.plan.now.lines.ok, c.loop-index-test.true) in
+    record {
+      booted = goes_on c.args.plan.now.salt lines c.loop-index.index c.index.result.now inside c.index.ensures _ _ _ (state_of c.loop-index.boot) c.loop-index.invariant.booted _ _ c.in-Ok-boot_line.ensures.did;
+      items = c.in-Ok-boot_line.ensures.items;
+    }
+
+pub returns-clause-booted : goal.returns-clause-booted
+returns-clause-booted g c =
+    let lines = c.args.plan.now.lines.items in
+    let all : length lines ≤ c.loop-index.index = omega (arith, c.args.plan.now.lines.ok, c.loop-index-test.false) in
+    ends c.args.plan.now.salt lines c.args.plan.now.numbers.items _ _ c.loop-index.boot c.loop-index.index all c.loop-index.invariant.booted
