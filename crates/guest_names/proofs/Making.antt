@@ -10,7 +10,7 @@ use Rattle.ro_file.specs.Opening.{Describes, WasOpened}
 use Rattle.ro_file.proofs.Standing.{opened_left, opened_right}
 use Rattle.guest_plan.specs.declared.plan.PlanLine.{PlanLine}
 use Rattle.guest_plan.specs.declared.plan.PlanLine.TheVariants as line
-use Rattle.guest_boot.specs.Booting.{Booted, Boots, LineBoots, nothing}
+use Rattle.guest_boot.specs.Booting.{Booted, Boots, LineBoots, PlanBoots, before_lines}
 use Rattle.guest_names.specs.Standing.{NamedFile, file_in, and_files, files_in, file_count}
 use Rattle.guest_names.specs.Promises.{IsPlannedFile, FilesAreCounted, FilesAreOpened}
 use Rattle.guest_names.proofs.Apart.{plan_plantable}
@@ -22,7 +22,7 @@ line_counted : (s mid : Booted) (l : PlanLine) (own : Exchanges) → LineBoots s
 line_counted s mid (line.Blob file m) own b = ap (λ (x : Booted). length x.files) b.1 ∙ omega arith
 line_counted s mid (line.Apk disk apk idsig how) own b = ap (λ (x : Booted). length x.files) b.new_is ∙ omega arith
 line_counted s mid (line.File name file digest) own b = ap (λ (x : Booted). length x.files) b.new_is ∙ length-append s.files (b.opened ∷ [])
-line_counted s mid (line.Instance disk part) own b = absurd b
+line_counted s mid (line.Instance disk part) own b = ap (λ (x : Booted). length x.files) b.1 ∙ omega arith
 line_counted s mid (line.Write name file) own b = absurd b
 line_counted s mid (line.WriteDir name file) own b = absurd b
 
@@ -36,7 +36,7 @@ counted_on (l ∷ lines) s new own (first, rest, mid, cut, mine, later) =
     omega (arith, counted_on lines mid new rest later, line_counted s mid l first mine, and_count (file_in l) (files_in lines))
 
 pub counted : FilesAreCounted
-counted lines own booted b = counted_on lines nothing booted own b ∙ omega arith
+counted salt lines own booted b = counted_on lines (before_lines b.tables b.image) booted b.rest b.others ∙ omega arith
 
 -- ---- each was opened by what was heard
 
@@ -89,7 +89,7 @@ adds (line.File name file digest ∷ lines) s new own (first, rest, mid, cut, mi
     let g : NamedFile = record { name = name; number = file; digest = digest } in
     let here : IsIn (DescriptorOf file) (Bytes mine.bytes) first = rw mine.own_is (inl refl) in
     adds_one first rest own s mid new g mine.opened (files_in lines) cut (ap (λ (x : Booted). x.files) mine.new_is) (made_by first g mine.opened mine.bytes here mine.describes) (adds lines mid new rest later)
-adds (line.Instance disk part ∷ lines) s new own (first, rest, mid, cut, mine, later) = absurd mine
+adds (line.Instance disk part ∷ lines) s new own (first, rest, mid, cut, mine, later) = adds_same first rest own s mid new (files_in lines) cut (ap (λ (x : Booted). x.files) mine.1) (adds lines mid new rest later)
 adds (line.Write name file ∷ lines) s new own (first, rest, mid, cut, mine, later) = absurd mine
 adds (line.WriteDir name file ∷ lines) s new own (first, rest, mid, cut, mine, later) = absurd mine
 
@@ -105,8 +105,10 @@ planned lines own n f w = record {
 
 pub files_opened : FilesAreOpened
 files_opened text plan own booted p b n f is =
-    let a = adds plan.lines nothing booted own b in
-    let made : AreMade own (files_in plan.lines) booted.files = subst (AreMade own (files_in plan.lines)) (sym a.are) a.each in
+    let a = adds plan.lines (before_lines b.tables b.image) booted b.rest b.others in
+    let later : AreMade b.rest (files_in plan.lines) booted.files = subst (AreMade b.rest (files_in plan.lines)) (sym a.are) a.each in
+    let made : AreMade own (files_in plan.lines) booted.files =
+    subst (λ (z : Exchanges). AreMade z (files_in plan.lines) booted.files) (sym b.cut) (all_right b.first b.rest (files_in plan.lines) booted.files later) in
     elim (found own [] (files_in plan.lines) booted.files n f made (plan_plantable text plan p).different is) [
       | inl w ↦ planned plan.lines own n f w
       | inr none ↦ absurd cc
