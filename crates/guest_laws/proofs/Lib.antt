@@ -8,6 +8,7 @@ pub mod Served
 pub mod Asking
 pub mod Inside
 pub mod Passes
+pub mod Images
 pub mod Boots
 pub mod Sat
 mod Example

@@ -1,5 +1,5 @@
 -- A session over an honest host that holds what the plan's lines need.
-use Rattle.std.proofs.Common.{◌≡◌, ◌+◌, ◌∙◌, ℕ, zero, suc, Bool, true, List, [], ◌∷◌, ◌++◌, length, ◌<◌, ◌≤◌, Some, Result, Ok, Err, refl, ap, sym, subst, inr, arith}
+use Rattle.std.proofs.Common.{◌≡◌, ◌+◌, ◌∙◌, ℕ, zero, suc, Bool, true, List, [], ◌∷◌, ◌++◌, length, ◌<◌, ◌≤◌, Option, Some, None, Result, Ok, Err, refl, ap, sym, subst, inr, arith}
 use Rattle.std.specs.Prelude.{slice_get}
 use Rattle.mg_base.specs.declared.errno.Errno.{Errno}
 use Rattle.mg_base.specs.declared.values.Digest.{Digest}
@@ -19,25 +19,29 @@ use Rattle.ro_file.specs.Contents.{IsContentOf}
 use Rattle.fuse_server.specs.Aims.{Aim, says, makes, reads, aim_of, number_of}
 use Rattle.fuse_server.specs.Rows.{IsForFuse}
 use Rattle.fuse_server.proofs.Keeping.{aim_file}
+use Rattle.guest_plan.specs.Plans.{Known}
 use Rattle.guest_plan.specs.declared.plan.PlanLine.{PlanLine}
 use Rattle.guest_plan.specs.declared.plan.PlanLine.TheVariants as line
-use Rattle.guest_boot.specs.Booting.{AreServed, Booted, Boots, LineBoots, device_on, nothing}
+use Rattle.instance_image.specs.declared.values.Part.{Part}
+use Rattle.instance_image.specs.Records.{sectors_of}
+use Rattle.guest_boot.specs.Booting.{AreServed, Booted, Boots, PlanBoots, LineBoots, device_on, before_lines}
 use Rattle.guest_boot.proofs.Makes.{device_is_item}
-use Rattle.guest_rules.specs.Machine.{Setting, State, World, Salted, Moment, Turn, Request, IsItem, request_of, message_of, read_of, unbuilt, moment}
+use Rattle.guest_rules.specs.Machine.{Instance, Setting, State, World, Salted, Moment, Turn, Request, IsItem, request_of, message_of, read_of, get_of, put_of, unbuilt, moment}
+use Rattle.guest_rules.specs.RecordRow.{IsForGet, IsForPut}
 use Rattle.guest_rules.specs.Step.{Step, IsFor, trace}
-use Rattle.guest_rules.specs.Run.{Run, IsWorld, AreOpened, calls_of}
+use Rattle.guest_rules.specs.Run.{Run, IsWorld, AreSealed, AreOpened, calls_of}
 use Rattle.guest_rules.specs.Faithful.{HoldsDevice, HoldsContent, IsDefined, IsReadDefined}
-use Rattle.guest_rules.proofs.Holding.{IsReading, reads_keep}
+use Rattle.guest_rules.proofs.Holding.{IsReading, of_blocks, reads_keep}
 use Rattle.guest_rules.proofs.Devices.{page_reads}
 use Rattle.guest_rules.proofs.Serving.{all_served, files_served}
 use Rattle.guest_rules.proofs.Standing.{run_heard, world_first, world_at, known_by, files_kept, opened_at}
 use Rattle.guest_plan.proofs.Whole.{plan_takes}
-use Rattle.guest_cli.specs.Booted.{BootsOver, setting_of, first_state}
+use Rattle.guest_cli.specs.Booted.{Opened, BootsOver, setting_of, first_state}
 use Rattle.guest_cli.specs.Serve.{before, Recorded}
 use Rattle.guest_cli.proofs.Opening.{opened_first}
 use Rattle.guest_boot.proofs.Plans.{plan_served}
 use Rattle.guest_laws.specs.Fitting.{FitsItem, HoldsReadOnly, item_line}
-use Rattle.guest_laws.specs.Sessions.{RunServed, SessionsAreServed, BootsAreServed}
+use Rattle.guest_laws.specs.Sessions.{WritesNone, AreUnwritten, RunServed, SessionsAreServed, BootsAreServed}
 use Rattle.guest_laws.proofs.Asking.{AreHeld, boot_held, not_failed}
 use Rattle.guest_laws.proofs.Boots.{lines_call, fault_passes}
 use Rattle.guest_laws.proofs.Items.{served_line}
@@ -64,6 +68,9 @@ blob_line file m (line.Apk d a i w ∷ lines) s new own (suc k) n b is e =
 blob_line file m (line.File name f digest ∷ lines) s new own k n b is e =
     let more : length b.2.items ≡ length s.items = ap (λ (z : Booted). length z.items) b.4.new_is in
     blob_line file m lines b.2 new b.1 k n b.5 is (omega (arith, e, more))
+blob_line file m (line.Instance d name ∷ lines) s new own k n b is e =
+    let more : length b.2.items ≡ length s.items = ap (λ (z : Booted). length z.items) b.4.1 in
+    blob_line file m lines b.2 new b.1 k n b.5 is (omega (arith, e, more))
 blob_line file m (other ∷ lines) s new own k n b is e = absurd b.4
 
 -- an item, its content, and what is held at its places
@@ -75,7 +82,7 @@ record IsKept (h : Held) (world : World) (items : List Device) (k : ℕ) : Type 
   content_is : world.item k ≡ Some content
   holds : HoldsDevice h it content
 
-module _ (lines : List PlanLine) (h : Held) (world : World) (booted : Exchanges) (served : AreServed lines) (new : Booted) (boots : Boots nothing lines booted new) (true_to : AreHeld h booted)
+module _ (salt : Option (List ℕ)) (lines : List PlanLine) (h : Held) (world : World) (booted : Exchanges) (served : AreServed lines) (new : Booted) (boots : PlanBoots salt lines booted new) (true_to : AreHeld h booted)
     (measured : (k : ℕ) (it : Device) (content : List ℕ) → slice_get new.items k ≡ Some it → world.item k ≡ Some content → IsMeasured it.measure content) where
   line_kept : (l : PlanLine) (k : ℕ) → item_line lines k ≡ Some l → FitsItem h (world.item k) l → IsKept h world new.items k
   line_kept (line.Blob file m) k at f =
@@ -83,21 +90,25 @@ module _ (lines : List PlanLine) (h : Held) (world : World) (booted : Exchanges)
       let i = device_is_item file m said.1 in
       record {
         it = device_on file m;
-        at = blob_line file m lines nothing new booted k k boots at (omega arith);
+        at = blob_line file m lines (before_lines boots.tables boots.image) new boots.rest k k boots.others at (omega arith);
         item = record { least = i.least; most = i.most; suits = i.suits };
         content = f.bytes;
         content_is = f.content_is;
         holds = f.holds;
       }
   line_kept (line.Apk disk apk idsig how) k at f =
-      let a = apk_kept lines booted new world h k f.bytes disk apk idsig how f.measure boots served at f.content_is measured f.holds (λ call said i of. true_to call said i) in
+      let a = apk_kept salt lines booted new world h k f.bytes disk apk idsig how f.measure boots served at f.content_is measured f.holds (λ call said i of. true_to call said i) in
       record { it = a.it; at = a.at; item = a.item; content = f.bytes; content_is = f.content_is; holds = a.holds }
   line_kept other k at f = absurd f
 
 -- ---- a run over what is held
 
-is_read : (g : Setting) (s : State) (request : Request) (call : Call) (given : List ℕ) → IsFor g s request call given → reading IsReading call given
-is_read g s (message_of m) call given f = message_read (aim_of s.fuse m) f where
+get_read : (image : Option Instance) (parts : List Part) (uuid : List ℕ) (call : Call) (given : List ℕ) → IsForGet image parts uuid call given → reading IsReading call given
+get_read None parts uuid call given f = absurd f
+get_read (Some i) parts uuid call given f = (subst IsReading (sym f.0.call_is) (of_blocks i.disk (i.first + f.0.part.sector) (1 + sectors_of f.0.part.size)), f.1)
+
+is_read : (g : Setting) (s : State) (request : Request) (call : Call) (given : List ℕ) → WritesNone g request → IsFor g s request call given → reading IsReading call given
+is_read g s (message_of m) call given unwritten f = message_read (aim_of s.fuse m) f where
   message_read : (aim : Result Aim Errno) → reading (IsForFuse aim) call given → reading IsReading call given
   message_read (Err e) f = absurd f.0
   message_read (Ok (says a)) f = absurd f.0
@@ -105,18 +116,20 @@ is_read g s (message_of m) call given f = message_read (aim_of s.fuse m) f where
   message_read (Ok (reads file offset size)) f =
       let p = f.0.path in
       (subst IsReading (sym p.call_is) (page_reads (layout_of file) file.measure.blocks p.level (ancestor f.0.block p.level)), f.1)
-is_read g s (read_of r) call given f =
+is_read g s (read_of r) call given unwritten f =
     let it = f.0 in
     let p = f.2.0.path in
     (subst IsReading (sym p.call_is) (page_reads it.layout it.measure.blocks p.level (ancestor f.2.0.block p.level)), f.2.1)
-is_read g s unbuilt call given f = absurd f
+is_read g s (get_of uuid) call given unwritten f = get_read g.image s.parts uuid call given f
+is_read g s (put_of uuid text) call given unwritten f = absurd (subst (λ (i : Option Instance). IsForPut i s uuid text call given) unwritten f)
+is_read g s unbuilt call given unwritten f = absurd f
 
--- a turn changes nothing that is held
-step_keeps : (g : Setting) (world : World) (old : Moment) (turn : Turn) (new : Moment) (h : Held) → Step g world old turn new → old.told.held ≡ Some h → new.told.held ≡ Some h
-step_keeps g world old turn new h step told =
+-- a turn that writes nothing changes nothing that is held
+step_keeps : (g : Setting) (world : World) (old : Moment) (turn : Turn) (new : Moment) (h : Held) → WritesNone g (request_of turn.frame) → Step g world old turn new → old.told.held ≡ Some h → new.told.held ≡ Some h
+step_keeps g world old turn new h unwritten step told =
     let after = subst (λ o. HeldAfter old.told.honest o turn.own new.told.held) told step.talked.held in
     let keeps = reads_keep old.told.honest turn.own h after.0 after.2
-    (each_so (IsFor g old.state (request_of turn.frame)) (reading IsReading) turn.own (is_read g old.state (request_of turn.frame)) step.calls) in
+    (each_so (IsFor g old.state (request_of turn.frame)) (reading IsReading) turn.own (λ call given f. is_read g old.state (request_of turn.frame) call given unwritten f) step.calls) in
     after.1 ∙ ap (λ (z : Held). Some z) keeps.0
 
 some_is : (a b : List ℕ) → Some a ≡ Some b → a ≡ b
@@ -138,15 +151,15 @@ content_held h f digest c is r =
 
 module _ (g : Setting) (world : World) (lines : List PlanLine) (h : Held) (kept : (k : ℕ) (l : PlanLine) → item_line lines k ≡ Some l → FitsItem h (world.item k) l → IsKept h world g.items k) where
   run_served : (turns : List Turn) (old new : Moment) → Run g world old turns new → old.told.held ≡ Some h → old.told.honest ≡ true → AreOpened old.state old.heard → IsWorld g old.state world new.heard
-      → old.told.scarce ≡ true → RunServed lines h g world old turns new
-  run_served [] old new run told honest opened w scarce = run
-  run_served (turn ∷ turns) old new run told honest opened w scarce =
+      → old.told.scarce ≡ true → AreUnwritten g turns → RunServed lines h g world old turns new
+  run_served [] old new run told honest opened w scarce unwritten = run
+  run_served (turn ∷ turns) old new run told honest opened w scarce unwritten =
       let mid : Moment = run.0 in
       let step : Step g world old turn mid = run.2 in
       let later = run_heard g world mid turns new run.3 in
       let here : IsWorld g old.state world mid.heard = world_first g old.state world mid.heard later.0 (subst (λ (x : Exchanges). IsWorld g old.state world x) later.1 w) in
       let wants : mid.told.scarce ≡ true = step.talked.scarce ∙ scarce in
-      let same = files_kept g world (trace old turn mid) (request_of turn.frame) old.state mid.state turn.sent turn.cause step.row in (
+      let same = files_kept g world old.sealings (trace old turn mid) (request_of turn.frame) old.state mid.state turn.sent turn.cause step.row in (
         mid,
         run.1,
         step,
@@ -164,34 +177,40 @@ module _ (g : Setting) (world : World) (lines : List PlanLine) (h : Held) (kept 
             let served = (files_served g world old turn mid h m there.0 f offset size c step request aim there.1 is opened here told
             (content_held h f digest c (known.files there.0 f c there.1 is) holds) (inr honest)).0 in
             subst (λ (b : Bool). IsReadDefined (number_of m) offset size c.content b turn.sent turn.cause) wants served,
-        run_served turns mid new run.3 (step_keeps g world old turn mid h step told) (step.talked.honest ∙ honest)
-            (opened_at old.state mid.state old.heard mid.heard (heard_of turn.own) same step.heard opened) (world_at g old.state mid.state world new.heard same w) wants,
+        run_served turns mid new run.3 (step_keeps g world old turn mid h unwritten.0 step told) (step.talked.honest ∙ honest)
+            (opened_at old.state mid.state old.heard mid.heard (heard_of turn.own) same step.heard opened) (world_at g old.state mid.state world new.heard same w) wants unwritten.1,
       )
 
-module _ (lines : List PlanLine) (h : Held) (mid : Told) (booted : List Made) (items : List Device) (opened : List MeasuredFile) (entropy : List ℕ) (calls : List Call) (records : List TapeItem) (finish : Told) (turns : List Turn) (world : World) where
-  abbrev first : State
-  first = first_state lines opened entropy
+module _ (plan : Known) (h : Held) (mid : Told) (booted : List Made) (o : Opened) (entropy : List ℕ) (calls : List Call) (records : List TapeItem) (finish : Told) (turns : List Turn) (world : World) where
+  abbrev g : Setting
+  g = setting_of plan o
 
-  turns_served : AreServed lines → BootsOver lines (before h) mid booted items opened → AreOpened first (heard_of booted) → (r : Recorded (setting_of items) first booted mid calls records finish turns)
-      → IsWorld (setting_of items) first world (heard_of booted ++ heard_of (calls_of turns))
-      → RunServed lines h (setting_of items) world (moment first mid (heard_of booted)) turns (moment r.state finish (heard_of booted ++ heard_of (calls_of turns)))
-  turns_served served over there r w =
+  abbrev first : State
+  first = first_state plan o entropy
+
+  turns_served : AreServed plan.lines → BootsOver plan (before h) mid booted o → AreOpened first (heard_of booted) → (r : Recorded g first booted mid calls records finish turns)
+      → IsWorld g first world (heard_of booted ++ heard_of (calls_of turns))
+      → AreSealed g world (moment first mid (heard_of booted) []) turns (moment r.state finish (heard_of booted ++ heard_of (calls_of turns)) r.sealed) r.plain
+      → AreUnwritten g turns
+      → RunServed plan.lines h g world (moment first mid (heard_of booted) []) turns (moment r.state finish (heard_of booted ++ heard_of (calls_of turns)) r.sealed)
+  turns_served served over there r w sealed unwritten =
       let opens = over.opens in
       let told = over.talked.held in
-      let boot = boot_held true booted h told.0 told.2 (lines_call lines booted over.calls) in
+      let boot = boot_held true booted h told.0 told.2 (lines_call plan.lines booted over.calls) in
       let mid_held : mid.held ≡ Some h = told.1 ∙ ap (λ (z : Held). Some z) boot.0 in
       let all : Exchanges = heard_of booted ++ heard_of (calls_of turns) in
-      let kept : (k : ℕ) (l : PlanLine) → item_line lines k ≡ Some l → FitsItem h (world.item k) l → IsKept h world items k = λ k l at fits.
-      line_kept lines h world (heard_of booted) served (record { tables = opens.tables; items = items; files = opened }) opens.boots boot.1 w.items l k at fits in
-      run_served (setting_of items) world lines h kept turns (moment first mid (heard_of booted)) (moment r.state finish all) (r.run world w) mid_held over.talked.honest there w over.talked.scarce
+      let made : Booted = record { tables = opens.tables; items = o.items; files = o.files; image = o.image } in
+      let kept : (k : ℕ) (l : PlanLine) → item_line plan.lines k ≡ Some l → FitsItem h (world.item k) l → IsKept h world o.items k = λ k l at fits.
+      line_kept plan.salt plan.lines h world (heard_of booted) served made opens.boots boot.1 w.items l k at fits in
+      run_served g world plan.lines h kept turns (moment first mid (heard_of booted) []) (moment r.state finish all r.sealed) (r.run world w sealed) mid_held over.talked.honest there w over.talked.scarce unwritten
 
 pub sessions_served : SessionsAreServed
-sessions_served files plan store entropy old new ended s turns world r w =
+sessions_served files plan store entropy old new ended s turns world r w sealed unwritten =
     let planned = s.made.planned in
     let grammar = plan_takes planned.text planned.plan planned.is in
     let served = plan_served planned.text planned.plan grammar in
-    let there = opened_first planned.text planned.plan (heard_of s.booted) s.items s.opened s.bytes grammar s.boots.opens in
-    turns_served planned.plan.lines s.made.stock.held s.mid s.booted s.items s.opened s.bytes s.calls s.records s.finish turns world served s.boots there r w
+    let there = opened_first planned.text planned.plan (heard_of s.booted) s.opened s.bytes grammar s.boots.opens in
+    turns_served planned.plan s.made.stock.held s.mid s.booted s.opened s.bytes s.calls s.records s.finish turns world served s.boots there r w sealed unwritten
 
 -- ---- a boot that failed
 
@@ -204,4 +223,4 @@ boots_served files plan store entropy fault world u fits =
     let told = f.talked.held in
     let calls = lines_call k.lines f.own f.calls in
     let boot = boot_held true f.own h told.0 told.2 calls in
-    f.other (fault_passes k.lines k.numbers u.bytes world h fits (trace_of (heard_of f.own) (failures_of f.own) start f.finish) boot.1 (λ call said one last serves. not_failed start f.finish f.own h call said f.talked refl (inr refl) calls one last serves) fault f.is)
+    f.other (fault_passes k u.bytes world h fits (trace_of (heard_of f.own) (failures_of f.own) start f.finish) boot.1 (λ call said one last serves. not_failed start f.finish f.own h call said f.talked refl (inr refl) calls one last serves) fault f.is)

@@ -11,15 +11,35 @@ use Rattle.fuse_server.specs.Aims.{reads, aim_of, number_of}
 use Rattle.guest_plan.specs.declared.plan.PlanLine.{PlanLine}
 use Rattle.guest_plan.specs.declared.plan.PlanLine.TheVariants as line
 use Rattle.guest_boot.specs.declared.faults.BootFault.{BootFault}
-use Rattle.guest_rules.specs.Machine.{Setting, World, Moment, moment, Turn, ItemRead, message_of, request_of, read_of}
+use Rattle.guest_rules.specs.Machine.{Setting, World, Moment, moment, Turn, ItemRead, Request, message_of, read_of, get_of, put_of, unbuilt, request_of}
 use Rattle.guest_rules.specs.Step.{Step}
-use Rattle.guest_rules.specs.Run.{IsEarly, IsWorld, calls_of}
+use Rattle.guest_rules.specs.Run.{IsEarly, IsWorld, AreSealed, calls_of}
 use Rattle.guest_rules.specs.Faithful.{IsDefined, IsReadDefined}
 use Rattle.guest_cli.specs.declared.session.SessionEnd.{SessionEnd}
 use Rattle.guest_cli.specs.Booted.{setting_of, first_state}
 use Rattle.guest_cli.specs.Session.{Streams}
 use Rattle.guest_cli.specs.Serve.{Recorded, SatOver, UnbootedOver}
 use Rattle.guest_laws.specs.Fitting.{Fits, FitsItem, FitsFile, item_line}
+
+-- a request that writes nothing to the host: any but a put where there is an instance image
+abbrev pub WritesNone : Setting → Request → Type 0
+WritesNone g (message_of m) = Unit {0}
+WritesNone g (read_of r) = Unit {0}
+WritesNone g (get_of uuid) = Unit {0}
+WritesNone g (put_of uuid text) = g.image ≡ None
+WritesNone g unbuilt = Unit {0}
+
+-- a request that asks an instance image for no record: any but a get or a put where there is one
+abbrev pub AsksNoRecord : Setting → Request → Type 0
+AsksNoRecord g (message_of m) = Unit {0}
+AsksNoRecord g (read_of r) = Unit {0}
+AsksNoRecord g (get_of uuid) = g.image ≡ None
+AsksNoRecord g (put_of uuid text) = g.image ≡ None
+AsksNoRecord g unbuilt = Unit {0}
+
+-- no turn writes to the host
+abbrev pub AreUnwritten : Setting → List Turn → Type 0
+AreUnwritten g turns = AllByRecursion (λ t. WritesNone g (request_of t.frame)) turns
 
 -- a turn that reads an item which is held as its line needs it, has its defined reply
 abbrev pub IsItemServed : List PlanLine → World → Held → Turn → Type 0
@@ -44,27 +64,33 @@ RunServed lines h g world old (turn ∷ turns) new = (mid : Moment) × IsEarly o
 -- status 8 doesn't come.
 abbrev pub BootsAreServed : Type 0
 BootsAreServed = (files : Option Files) (plan store entropy : List ℕ) (fault : BootFault) (world : World)
-    (u : UnbootedOver files plan store entropy fault) → Fits u.made.planned.plan.lines world u.made.stock.held → ⊥
+    (u : UnbootedOver files plan store entropy fault) → Fits u.made.planned.plan world u.made.stock.held → ⊥
 
--- A session of `serve`, over the host that a store list makes, whose turns these are. It is a run in which each read of an item,
--- and each READ of a file, that the host holds at first as its line needs it has its defined reply: its bytes, or 22 where too many
--- were asked for, or want of memory, and no cause. What the host holds for other lines is no premise, nor is which calls fail: the
--- host is honest, and of such a read none does.
+-- A session of `serve`, over the host that a store list makes, whose turns these are, and none of which writes to the host. It is a
+-- run in which each read of an item, and each READ of a file, that the host holds at first as its line needs it has its defined
+-- reply: its bytes, or 22 where too many were asked for, or want of memory, and no cause. What the host holds for other lines is no
+-- premise, nor is which calls fail: the host is honest, and of such a read none does.
 abbrev pub SessionsAreServed : Type 0
 SessionsAreServed = (files : Option Files) (plan store entropy : List ℕ) (old new : Streams) (ended : Result (Unit {0}) SessionEnd)
     (s : SatOver files plan store entropy old new ended) (turns : List Turn) (world : World)
-    → (r : Recorded (setting_of s.items) (first_state s.made.planned.plan.lines s.opened s.bytes) s.booted s.mid s.calls s.records s.finish turns)
-    → IsWorld (setting_of s.items) (first_state s.made.planned.plan.lines s.opened s.bytes) world (heard_of s.booted ++ heard_of (calls_of turns))
-    → RunServed s.made.planned.plan.lines s.made.stock.held (setting_of s.items) world
-    (moment (first_state s.made.planned.plan.lines s.opened s.bytes) s.mid (heard_of s.booted)) turns
-    (moment r.state s.finish (heard_of s.booted ++ heard_of (calls_of turns)))
+    → (r : Recorded (setting_of s.made.planned.plan s.opened) (first_state s.made.planned.plan s.opened s.bytes) s.booted s.mid s.calls s.records s.finish turns)
+    → IsWorld (setting_of s.made.planned.plan s.opened) (first_state s.made.planned.plan s.opened s.bytes) world (heard_of s.booted ++ heard_of (calls_of turns))
+    → AreSealed (setting_of s.made.planned.plan s.opened) world (moment (first_state s.made.planned.plan s.opened s.bytes) s.mid (heard_of s.booted) []) turns
+    (moment r.state s.finish (heard_of s.booted ++ heard_of (calls_of turns)) r.sealed) r.plain
+    → AreUnwritten (setting_of s.made.planned.plan s.opened) turns
+    → RunServed s.made.planned.plan.lines s.made.stock.held (setting_of s.made.planned.plan s.opened) world
+    (moment (first_state s.made.planned.plan s.opened s.bytes) s.mid (heard_of s.booted) []) turns
+    (moment r.state s.finish (heard_of s.booted ++ heard_of (calls_of turns)) r.sealed)
 
--- Where the host holds at first what each line of the plan needs, no frame of such a session has a cause: an honest host causes no
--- failure, and no line of the log names one.
+-- Where the host holds at first what each line of the plan needs, and no turn writes to it, each frame of such a session that asks
+-- for no record has no cause: an honest host causes no failure of it, and no line of the log names one.
 abbrev pub HonestHostsCauseNone : Type 0
 HonestHostsCauseNone = (files : Option Files) (plan store entropy : List ℕ) (old new : Streams) (ended : Result (Unit {0}) SessionEnd)
     (s : SatOver files plan store entropy old new ended) (turns : List Turn) (world : World)
-    → Recorded (setting_of s.items) (first_state s.made.planned.plan.lines s.opened s.bytes) s.booted s.mid s.calls s.records s.finish turns
-    → IsWorld (setting_of s.items) (first_state s.made.planned.plan.lines s.opened s.bytes) world (heard_of s.booted ++ heard_of (calls_of turns))
-    → Fits s.made.planned.plan.lines world s.made.stock.held
-    → AllByRecursion (λ t. t.cause ≡ None) turns
+    → (r : Recorded (setting_of s.made.planned.plan s.opened) (first_state s.made.planned.plan s.opened s.bytes) s.booted s.mid s.calls s.records s.finish turns)
+    → IsWorld (setting_of s.made.planned.plan s.opened) (first_state s.made.planned.plan s.opened s.bytes) world (heard_of s.booted ++ heard_of (calls_of turns))
+    → AreSealed (setting_of s.made.planned.plan s.opened) world (moment (first_state s.made.planned.plan s.opened s.bytes) s.mid (heard_of s.booted) []) turns
+    (moment r.state s.finish (heard_of s.booted ++ heard_of (calls_of turns)) r.sealed) r.plain
+    → AreUnwritten (setting_of s.made.planned.plan s.opened) turns
+    → Fits s.made.planned.plan world s.made.stock.held
+    → AllByRecursion (λ t. AsksNoRecord (setting_of s.made.planned.plan s.opened) (request_of t.frame) → t.cause ≡ None) turns
