@@ -37,7 +37,7 @@ use Rattle.guest_rules.specs.Faithful.{IsDefined, over_limit, whole, no_room, Is
 use Rattle.guest_rules.proofs.Standing.{files_kept}
 use Rattle.guest_cli.specs.Booted.{setting_of}
 use Rattle.guest_laws.specs.Fitting.{Fits, FitsItem, item_line}
-use Rattle.guest_laws.specs.Sessions.{AsksNoRecord, IsItemServed, IsFileServed, RunServed, HonestHostsCauseNone}
+use Rattle.guest_laws.specs.Sessions.{AsksNoRecord, StaysHeld, IsItemServed, IsFileServed, RunServed, HonestHostsCauseNone}
 use Rattle.guest_laws.proofs.Sat.{sessions_served}
 
 -- ---- defined replies have no cause
@@ -145,9 +145,10 @@ content_of h o (line.Apk disk apk idsig how) f = (f.bytes, f.content_is)
 content_of h o other f = absurd f
 
 module _ (plan : Known) (h : Held) (world : World) (booted : Exchanges) (new : Booted) (boots : PlanBoots plan.salt plan.lines booted new)
-    (planned : (n : ℕ) (f : MeasuredFile) → file_at (files_at_boot plan.lines new.files) n ≡ Some f → IsPlannedFile plan.lines booted n f) (fits : Fits plan world h) where
+    (planned : (n : ℕ) (f : MeasuredFile) → file_at (files_at_boot plan.lines new.files) n ≡ Some f → IsPlannedFile plan.lines booted n f) (fits : Fits plan world h)
+    (Stays : PlanLine → Type 0) (stay : (k : ℕ) (l : PlanLine) → item_line plan.lines k ≡ Some l → Stays l) where
   turn_none : (g : Setting) (old : Moment) (turn : Turn) (mid : Moment) → g.items ≡ new.items → old.state.fuse.files ≡ files_at_boot plan.lines new.files → (request : Request) → request_of turn.frame ≡ request
-      → AsksNoRecord g request → Row g world old.sealings (trace old turn mid) request old.state mid.state turn.sent turn.cause → IsItemServed plan.lines world h turn → IsFileServed plan.lines world h old turn
+      → AsksNoRecord g request → Row g world old.sealings (trace old turn mid) request old.state mid.state turn.sent turn.cause → IsItemServed plan.lines world h Stays turn → IsFileServed plan.lines world h old turn
       → turn.cause ≡ None
   turn_none g old turn mid items same unbuilt is asks row item file = absurd row
   turn_none g old turn mid items same (get_of uuid) is asks row item file = get_none g.image old.state.parts world old.sealings (trace old turn mid) uuid turn.sent turn.cause asks row.1
@@ -157,7 +158,7 @@ module _ (plan : Known) (h : Held) (world : World) (booted : Exchanges) (new : B
       let l = item_has_line plan.lines (before_lines boots.tables boots.image) new boots.rest r.item r.item it boots.others (omega arith) (ap (λ (xs : List Device). slice_get xs r.item) (sym items) ∙ at) in
       let fit = fits.items r.item l.0 l.1 in
       let c = content_of h (world.item r.item) l.0 fit in
-      defined_none r c.0 true turn.sent turn.cause (item r l.0 c.0 is l.1 fit c.1)) row.1
+      defined_none r c.0 true turn.sent turn.cause (item r l.0 c.0 is l.1 (stay r.item l.0 l.1) fit c.1)) row.1
   turn_none g old turn mid items same (message_of m) is asks row item file =
       aim_none (aim_of old.state.fuse m) (trace old turn mid) row.2.answer turn.cause (λ f offset size aim.
       let there = aim_file old.state.fuse m f offset size aim in
@@ -167,7 +168,7 @@ module _ (plan : Known) (h : Held) (world : World) (booted : Exchanges) (new : B
       read_none (number_of m) offset size fit.known.content true turn.sent turn.cause
       (file m f offset size l.k l.name there.0 p.digest is aim l.at p.number_is fit)) row.2.row
 
-  run_none : (g : Setting) (turns : List Turn) (old end : Moment) → g.items ≡ new.items → old.state.fuse.files ≡ files_at_boot plan.lines new.files → RunServed plan.lines h g world old turns end
+  run_none : (g : Setting) (turns : List Turn) (old end : Moment) → g.items ≡ new.items → old.state.fuse.files ≡ files_at_boot plan.lines new.files → RunServed plan.lines h Stays g world old turns end
       → AllByRecursion (λ t. AsksNoRecord g (request_of t.frame) → t.cause ≡ None) turns
   run_none g [] old end items same run = tt
   run_none g (turn ∷ turns) old end items same run =
@@ -177,7 +178,7 @@ module _ (plan : Known) (h : Held) (world : World) (booted : Exchanges) (new : B
       (λ asks. turn_none g old turn mid items same (request_of turn.frame) refl asks step.row run.3 run.4, run_none g turns mid end items (kept ∙ same) run.5)
 
 pub causes_none : HonestHostsCauseNone
-causes_none files plan store entropy old new ended s turns world r w sealed unwritten fits =
+causes_none files plan store entropy old new ended s turns world r w sealed fits stay =
     let known = s.made.planned in
     let grammar = plan_takes known.text known.plan known.is in
     let opens = s.boots.opens in
@@ -185,4 +186,4 @@ causes_none files plan store entropy old new ended s turns world r w sealed unwr
     let made : Booted = record { tables = opens.tables; items = o.items; files = o.files; image = o.image } in
     run_none known.plan s.made.stock.held world (heard_of s.booted) made opens.boots
     (λ n f at. files_opened known.text known.plan (heard_of s.booted) made grammar opens.boots n f at) fits
-    (setting_of known.plan o) turns _ _ refl refl (sessions_served files plan store entropy old new ended s turns world r w sealed unwritten)
+    (StaysHeld (setting_of known.plan o) turns) stay (setting_of known.plan o) turns _ _ refl refl (sessions_served files plan store entropy old new ended s turns world r w sealed)

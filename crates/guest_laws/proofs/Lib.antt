@@ -10,6 +10,7 @@ pub mod Inside
 pub mod Passes
 pub mod Images
 pub mod Boots
+pub mod Staying
 pub mod Sat
 mod Example
 pub mod Causes

@@ -1,5 +1,5 @@
 -- What a boot and a session over a host in memory say, where it holds what the plan's lines need.
-use Rattle.std.specs.Prelude.{true, ◌≡◌, ◌++◌, ℕ, List, [], ◌∷◌, slice_get, Option, Some, None, Result, Ok}
+use Rattle.std.specs.Prelude.{true, ◌≡◌, ◌≢◌, ◌⊎◌, ◌++◌, ℕ, List, [], ◌∷◌, slice_get, Option, Some, None, Result, Ok}
 use Rattle.std.specs.List.{AllByRecursion}
 use Rattle.mg_base.specs.declared.values.Digest.{Digest}
 use Rattle.host_traits.specs.Folders.{Files}
@@ -11,7 +11,7 @@ use Rattle.fuse_server.specs.Aims.{reads, aim_of, number_of}
 use Rattle.guest_plan.specs.declared.plan.PlanLine.{PlanLine}
 use Rattle.guest_plan.specs.declared.plan.PlanLine.TheVariants as line
 use Rattle.guest_boot.specs.declared.faults.BootFault.{BootFault}
-use Rattle.guest_rules.specs.Machine.{Setting, World, Moment, moment, Turn, ItemRead, Request, message_of, read_of, get_of, put_of, unbuilt, request_of}
+use Rattle.guest_rules.specs.Machine.{Instance, Setting, World, Moment, moment, Turn, ItemRead, Request, message_of, read_of, get_of, put_of, unbuilt, request_of}
 use Rattle.guest_rules.specs.Step.{Step}
 use Rattle.guest_rules.specs.Run.{IsEarly, IsWorld, AreSealed, calls_of}
 use Rattle.guest_rules.specs.Faithful.{IsDefined, IsReadDefined}
@@ -41,10 +41,28 @@ AsksNoRecord g unbuilt = Unit {0}
 abbrev pub AreUnwritten : Setting → List Turn → Type 0
 AreUnwritten g turns = AllByRecursion (λ t. WritesNone g (request_of t.frame)) turns
 
--- a turn that reads an item which is held as its line needs it, has its defined reply
-abbrev pub IsItemServed : List PlanLine → World → Held → Turn → Type 0
-IsItemServed lines world h turn = (r : ItemRead) (l : PlanLine) (content : List ℕ)
-    → request_of turn.frame ≡ read_of r → item_line lines r.item ≡ Some l → FitsItem h (world.item r.item) l → world.item r.item ≡ Some content
+-- a disk other than that of the instance image
+abbrev pub IsOtherDisk : Option Instance → ℕ → Type 0
+IsOtherDisk None disk = Unit {0}
+IsOtherDisk (Some i) disk = disk ≢ i.disk
+
+-- what is held for a line lies in a file, or on such a disk, so that no put changes it
+abbrev pub LiesApart : Option Instance → PlanLine → Type 0
+LiesApart image (line.Instance disk part) = ⊥
+LiesApart image (line.Blob file m) = Unit {0}
+LiesApart image (line.Apk disk apk idsig how) = IsOtherDisk image disk
+LiesApart image (line.File name file digest) = Unit {0}
+LiesApart image (line.Write name file) = Unit {0}
+LiesApart image (line.WriteDir name file) = Unit {0}
+
+-- it stays in these turns: it lies apart, or no turn writes to the host
+abbrev pub StaysHeld : Setting → List Turn → PlanLine → Type 0
+StaysHeld g turns l = LiesApart g.image l ⊎ AreUnwritten g turns
+
+-- a turn that reads an item which is held as its line needs it, and stays so, has its defined reply
+abbrev pub IsItemServed : List PlanLine → World → Held → (PlanLine → Type 0) → Turn → Type 0
+IsItemServed lines world h Stays turn = (r : ItemRead) (l : PlanLine) (content : List ℕ)
+    → request_of turn.frame ≡ read_of r → item_line lines r.item ≡ Some l → Stays l → FitsItem h (world.item r.item) l → world.item r.item ≡ Some content
     → IsDefined r content true turn.sent turn.cause
 
 -- a turn with a READ that its checks let through, of a file which is held as its line needs it, has its defined reply
@@ -55,10 +73,10 @@ IsFileServed lines world h old turn = (m : Result Message Bad) (f : MeasuredFile
     → IsReadDefined (number_of m) offset size fits.known.content true turn.sent turn.cause
 
 -- a run of which each step is such, with its reads served
-abbrev pub RunServed : List PlanLine → Held → Setting → World → Moment → List Turn → Moment → Type 0
-RunServed lines h g world old [] new = old ≡ new
-RunServed lines h g world old (turn ∷ turns) new = (mid : Moment) × IsEarly old.told.heard × Step g world old turn mid
-    × IsItemServed lines world h turn × IsFileServed lines world h old turn × RunServed lines h g world mid turns new
+abbrev pub RunServed : List PlanLine → Held → (PlanLine → Type 0) → Setting → World → Moment → List Turn → Moment → Type 0
+RunServed lines h Stays g world old [] new = old ≡ new
+RunServed lines h Stays g world old (turn ∷ turns) new = (mid : Moment) × IsEarly old.told.heard × Step g world old turn mid
+    × IsItemServed lines world h Stays turn × IsFileServed lines world h old turn × RunServed lines h Stays g world mid turns new
 
 -- Over the host that a store list makes, where it holds what each line of the plan needs, boot doesn't end with a fault of a line:
 -- status 8 doesn't come.
@@ -66,10 +84,11 @@ abbrev pub BootsAreServed : Type 0
 BootsAreServed = (files : Option Files) (plan store entropy : List ℕ) (fault : BootFault) (world : World)
     (u : UnbootedOver files plan store entropy fault) → Fits u.made.planned.plan world u.made.stock.held → ⊥
 
--- A session of `serve`, over the host that a store list makes, whose turns these are, and none of which writes to the host. It is a
--- run in which each read of an item, and each READ of a file, that the host holds at first as its line needs it has its defined
--- reply: its bytes, or 22 where too many were asked for, or want of memory, and no cause. What the host holds for other lines is no
--- premise, nor is which calls fail: the host is honest, and of such a read none does.
+-- A session of `serve`, over the host that a store list makes, whose turns these are. It is a run in which each read of an item, and
+-- each READ of a file, that the host holds at first as its line needs it has its defined reply: its bytes, or 22 where too many were
+-- asked for, or want of memory, and no cause. Of an item on the instance image's disk that is said of a session whose turns write
+-- nothing to the host. What the host holds for other lines is no premise, nor is which calls fail: the host is honest, and of such a
+-- read none does.
 abbrev pub SessionsAreServed : Type 0
 SessionsAreServed = (files : Option Files) (plan store entropy : List ℕ) (old new : Streams) (ended : Result (Unit {0}) SessionEnd)
     (s : SatOver files plan store entropy old new ended) (turns : List Turn) (world : World)
@@ -77,13 +96,12 @@ SessionsAreServed = (files : Option Files) (plan store entropy : List ℕ) (old 
     → IsWorld (setting_of s.made.planned.plan s.opened) (first_state s.made.planned.plan s.opened s.bytes) world (heard_of s.booted ++ heard_of (calls_of turns))
     → AreSealed (setting_of s.made.planned.plan s.opened) world (moment (first_state s.made.planned.plan s.opened s.bytes) s.mid (heard_of s.booted) []) turns
     (moment r.state s.finish (heard_of s.booted ++ heard_of (calls_of turns)) r.sealed) r.plain
-    → AreUnwritten (setting_of s.made.planned.plan s.opened) turns
-    → RunServed s.made.planned.plan.lines s.made.stock.held (setting_of s.made.planned.plan s.opened) world
+    → RunServed s.made.planned.plan.lines s.made.stock.held (StaysHeld (setting_of s.made.planned.plan s.opened) turns) (setting_of s.made.planned.plan s.opened) world
     (moment (first_state s.made.planned.plan s.opened s.bytes) s.mid (heard_of s.booted) []) turns
     (moment r.state s.finish (heard_of s.booted ++ heard_of (calls_of turns)) r.sealed)
 
--- Where the host holds at first what each line of the plan needs, and no turn writes to it, each frame of such a session that asks
--- for no record has no cause: an honest host causes no failure of it, and no line of the log names one.
+-- Where the host holds at first what each line of the plan needs, and what it holds for items stays, each frame of such a session
+-- that asks for no record has no cause: an honest host causes no failure of it, and no line of the log names one.
 abbrev pub HonestHostsCauseNone : Type 0
 HonestHostsCauseNone = (files : Option Files) (plan store entropy : List ℕ) (old new : Streams) (ended : Result (Unit {0}) SessionEnd)
     (s : SatOver files plan store entropy old new ended) (turns : List Turn) (world : World)
@@ -91,6 +109,6 @@ HonestHostsCauseNone = (files : Option Files) (plan store entropy : List ℕ) (o
     → IsWorld (setting_of s.made.planned.plan s.opened) (first_state s.made.planned.plan s.opened s.bytes) world (heard_of s.booted ++ heard_of (calls_of turns))
     → AreSealed (setting_of s.made.planned.plan s.opened) world (moment (first_state s.made.planned.plan s.opened s.bytes) s.mid (heard_of s.booted) []) turns
     (moment r.state s.finish (heard_of s.booted ++ heard_of (calls_of turns)) r.sealed) r.plain
-    → AreUnwritten (setting_of s.made.planned.plan s.opened) turns
     → Fits s.made.planned.plan world s.made.stock.held
+    → ((k : ℕ) (l : PlanLine) → item_line s.made.planned.plan.lines k ≡ Some l → StaysHeld (setting_of s.made.planned.plan s.opened) turns l)
     → AllByRecursion (λ t. AsksNoRecord (setting_of s.made.planned.plan s.opened) (request_of t.frame) → t.cause ≡ None) turns
