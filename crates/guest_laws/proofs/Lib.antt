@@ -11,6 +11,7 @@ pub mod Passes
 pub mod Images
 pub mod Boots
 pub mod Staying
+pub mod Gets
 pub mod Sat
 mod Example
 pub mod Causes

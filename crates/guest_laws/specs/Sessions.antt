@@ -6,12 +6,18 @@ use Rattle.host_traits.specs.Folders.{Files}
 use Rattle.host_traits.specs.Held.{Held}
 use Rattle.host_traits.specs.Told.{heard_of}
 use Rattle.ro_file.specs.Files.{MeasuredFile}
+use Rattle.session_frames.specs.Replies.{Sent, sent_text, sent_code}
+use Rattle.verity_path.specs.declared.device.Cause.{Cause}
 use Rattle.fuse_codec.specs.Message.{Message, Bad}
 use Rattle.fuse_server.specs.Aims.{reads, aim_of, number_of}
+use Rattle.instance_image.specs.declared.values.Part.{Part}
+use Rattle.instance_image.specs.Records.{find_part}
+use Rattle.instance_image.specs.Sealings.{Sealing}
+use Rattle.instance_image.specs.Promised.{HoldsRecord}
 use Rattle.guest_plan.specs.declared.plan.PlanLine.{PlanLine}
 use Rattle.guest_plan.specs.declared.plan.PlanLine.TheVariants as line
 use Rattle.guest_boot.specs.declared.faults.BootFault.{BootFault}
-use Rattle.guest_rules.specs.Machine.{Instance, Setting, World, Moment, moment, Turn, ItemRead, Request, message_of, read_of, get_of, put_of, unbuilt, request_of}
+use Rattle.guest_rules.specs.Machine.{Instance, Setting, World, Moment, moment, Turn, ItemRead, Request, message_of, read_of, get_of, put_of, unbuilt, request_of, image_with}
 use Rattle.guest_rules.specs.Step.{Step}
 use Rattle.guest_rules.specs.Run.{IsEarly, IsWorld, AreSealed, calls_of}
 use Rattle.guest_rules.specs.Faithful.{IsDefined, IsReadDefined}
@@ -72,11 +78,23 @@ IsFileServed lines world h old turn = (m : Result Message Bad) (f : MeasuredFile
     → slice_get lines k ≡ Some (line.File name file digest) → f.file ≡ file → (fits : FitsFile h (world.file file) file digest)
     → IsReadDefined (number_of m) offset size fits.known.content true turn.sent turn.cause
 
--- a run of which each step is such, with its reads served
+-- The defined reply to a get of a record that is held: its text, or want of memory. Neither has a cause.
+pub data IsGetDefined (text : List ℕ) : Sent → Option Cause → Type 0 where
+  whole : IsGetDefined text (sent_text text) None
+  no_room : IsGetDefined text (sent_code 2 12) None
+
+-- a turn with a get of a UUID whose record is held then has its defined reply
+abbrev pub IsGetServed : Setting → Moment → Turn → Type 0
+IsGetServed g old turn = (i : Instance) (uuid : List ℕ) (p : Part) (z : Sealing) (now : Held)
+    → request_of turn.frame ≡ get_of uuid → g.image ≡ Some i → find_part old.state.parts uuid ≡ Some p → z.uuid ≡ uuid
+    → old.told.held ≡ Some now → HoldsRecord now (image_with i old.state.parts) i.secret p z
+    → IsGetDefined z.text turn.sent turn.cause
+
+-- a run of which each step is such, with its reads and gets served
 abbrev pub RunServed : List PlanLine → Held → (PlanLine → Type 0) → Setting → World → Moment → List Turn → Moment → Type 0
 RunServed lines h Stays g world old [] new = old ≡ new
 RunServed lines h Stays g world old (turn ∷ turns) new = (mid : Moment) × IsEarly old.told.heard × Step g world old turn mid
-    × IsItemServed lines world h Stays turn × IsFileServed lines world h old turn × RunServed lines h Stays g world mid turns new
+    × IsItemServed lines world h Stays turn × IsFileServed lines world h old turn × IsGetServed g old turn × RunServed lines h Stays g world mid turns new
 
 -- Over the host that a store list makes, where it holds what each line of the plan needs, boot doesn't end with a fault of a line:
 -- status 8 doesn't come.
@@ -87,8 +105,8 @@ BootsAreServed = (files : Option Files) (plan store entropy : List ℕ) (fault :
 -- A session of `serve`, over the host that a store list makes, whose turns these are. It is a run in which each read of an item, and
 -- each READ of a file, that the host holds at first as its line needs it has its defined reply: its bytes, or 22 where too many were
 -- asked for, or want of memory, and no cause. Of an item on the instance image's disk that is said of a session whose turns write
--- nothing to the host. What the host holds for other lines is no premise, nor is which calls fail: the host is honest, and of such a
--- read none does.
+-- nothing to the host. And each get of a record that the host holds then has its text, or want of memory. What the host holds for
+-- other lines is no premise, nor is which calls fail: the host is honest, and of such a read or get none does.
 abbrev pub SessionsAreServed : Type 0
 SessionsAreServed = (files : Option Files) (plan store entropy : List ℕ) (old new : Streams) (ended : Result (Unit {0}) SessionEnd)
     (s : SatOver files plan store entropy old new ended) (turns : List Turn) (world : World)
