@@ -19,10 +19,10 @@ use Rattle.guest_rules.specs.RecordRow.{GetRow, no_image, got, get_sent, get_cau
 use Rattle.guest_rules.specs.Step.{Step, Row, IsFor, most_for, trace}
 use Rattle.guest_laws.specs.Sessions.{IsGetDefined, whole, no_room, IsGetServed}
 
-same_instance : (a b : Instance) → Some a ≡ Some b → a ≡ b
+pub same_instance : (a b : Instance) → Some a ≡ Some b → a ≡ b
 same_instance a b e = cc
 
-no_instance : (i : Instance) → Some i ≡ None → ⊥
+pub no_instance : (i : Instance) → Some i ≡ None → ⊥
 no_instance i e = cc
 
 text_defined : (z : Sealing) (result : Result (List ℕ) GetFault) → IsTextOf z result → IsGetDefined z.text (get_sent result) (get_cause result)

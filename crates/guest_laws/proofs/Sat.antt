@@ -49,6 +49,7 @@ use Rattle.guest_laws.proofs.Boots.{lines_call, fault_passes}
 use Rattle.guest_laws.proofs.Items.{served_line}
 use Rattle.guest_laws.proofs.Lines.{same_line, get_last, keeps}
 use Rattle.guest_laws.proofs.Gets.{get_served}
+use Rattle.guest_laws.proofs.Puts.{put_kept}
 use Rattle.guest_laws.proofs.Served.{apk_kept}
 use Rattle.guest_laws.proofs.Staying.{IsSameBut, same_self, same_on, step_keeps, step_same, file_stays, parts_stay}
 
@@ -194,6 +195,7 @@ module _ (g : Setting) (world : World) (lines : List PlanLine) (h : Held) (all :
             let served = (files_served g world old turn mid now m there.0 f offset size c step request aim there.1 is opened here told held (inr honest)).0 in
             subst (λ (b : Bool). IsReadDefined (number_of m) offset size c.content b turn.sent turn.cause) wants served,
         get_served g world old turn mid step honest,
+        put_kept g world old turn mid step,
         run_served turns mid new next.0 run.3 next.1 next.2 (step.talked.honest ∙ honest)
             (opened_at old.state mid.state old.heard mid.heard (heard_of turn.own) same step.heard opened) (world_at g old.state mid.state world new.heard same w) wants,
       )

@@ -1,5 +1,5 @@
 -- What a boot and a session over a host in memory say, where it holds what the plan's lines need.
-use Rattle.std.specs.Prelude.{true, ◌≡◌, ◌≢◌, ◌⊎◌, ◌++◌, ℕ, List, [], ◌∷◌, slice_get, Option, Some, None, Result, Ok}
+use Rattle.std.specs.Prelude.{true, ◌≡◌, ◌≢◌, ◌⊎◌, ◌++◌, ℕ, List, [], ◌∷◌, length, slice_get, Option, Some, None, Result, Ok}
 use Rattle.std.specs.List.{AllByRecursion}
 use Rattle.mg_base.specs.declared.values.Digest.{Digest}
 use Rattle.host_traits.specs.Folders.{Files}
@@ -90,11 +90,29 @@ IsGetServed g old turn = (i : Instance) (uuid : List ℕ) (p : Part) (z : Sealin
     → old.told.held ≡ Some now → HoldsRecord now (image_with i old.state.parts) i.secret p z
     → IsGetDefined z.text turn.sent turn.cause
 
--- a run of which each step is such, with its reads and gets served
+-- The host holds the record of a text after a turn: of the partition of its UUID, with the size that the machine then keeps. So a
+-- get of it then is such.
+pub record IsWritten (i : Instance) (uuid text : List ℕ) (new : Moment) : Type 0 where
+  pub part : Part
+  pub found : find_part new.state.parts uuid ≡ Some part
+  pub sealing : Sealing
+  pub uuid_is : sealing.uuid ≡ uuid
+  pub text_is : sealing.text ≡ text
+  pub held : Held
+  pub held_is : new.told.held ≡ Some held
+  pub holds : HoldsRecord held (image_with i new.state.parts) i.secret part sealing
+
+-- a turn with a put into a UUID of 16 bytes that is answered with 0 has left its record
+abbrev pub IsPutKept : Setting → Moment → Turn → Moment → Type 0
+IsPutKept g old turn new = (i : Instance) (uuid text : List ℕ) (now : Held)
+    → request_of turn.frame ≡ put_of uuid text → g.image ≡ Some i → length uuid ≡ 16 → old.told.held ≡ Some now → turn.sent ≡ sent_code 3 0
+    → IsWritten i uuid text new
+
+-- a run of which each step is such, with its reads and gets served and its puts kept
 abbrev pub RunServed : List PlanLine → Held → (PlanLine → Type 0) → Setting → World → Moment → List Turn → Moment → Type 0
 RunServed lines h Stays g world old [] new = old ≡ new
 RunServed lines h Stays g world old (turn ∷ turns) new = (mid : Moment) × IsEarly old.told.heard × Step g world old turn mid
-    × IsItemServed lines world h Stays turn × IsFileServed lines world h old turn × IsGetServed g old turn × RunServed lines h Stays g world mid turns new
+    × IsItemServed lines world h Stays turn × IsFileServed lines world h old turn × IsGetServed g old turn × IsPutKept g old turn mid × RunServed lines h Stays g world mid turns new
 
 -- Over the host that a store list makes, where it holds what each line of the plan needs, boot doesn't end with a fault of a line:
 -- status 8 doesn't come.
@@ -105,8 +123,8 @@ BootsAreServed = (files : Option Files) (plan store entropy : List ℕ) (fault :
 -- A session of `serve`, over the host that a store list makes, whose turns these are. It is a run in which each read of an item, and
 -- each READ of a file, that the host holds at first as its line needs it has its defined reply: its bytes, or 22 where too many were
 -- asked for, or want of memory, and no cause. Of an item on the instance image's disk that is said of a session whose turns write
--- nothing to the host. And each get of a record that the host holds then has its text, or want of memory. What the host holds for
--- other lines is no premise, nor is which calls fail: the host is honest, and of such a read or get none does.
+-- nothing to the host. Each get of a record that the host holds then has its text, or want of memory, and a put that is answered
+-- with 0 has left its record. What the host holds for other lines is no premise, nor is which calls fail: the host is honest, and of such a read or get none does.
 abbrev pub SessionsAreServed : Type 0
 SessionsAreServed = (files : Option Files) (plan store entropy : List ℕ) (old new : Streams) (ended : Result (Unit {0}) SessionEnd)
     (s : SatOver files plan store entropy old new ended) (turns : List Turn) (world : World)
