@@ -430,17 +430,16 @@ def ends():
                ran("serve plan store entropy tape", 12, session.replies, f"end 12 unbuilt frame {len(session.stream)}\n",
                    session.stream + framed(0, ask("opendir"))))
     item = struct.pack("<IQI", 0, 0, 4)
-    for name, channel, payload in [(f"{word} {kind}", 0, message) for word in NOT_SERVED for kind, message in (
-            ("alone", ask(word)), ("with no body", request(OPERATIONS[word][0], b"")), ("with another length", ask(word, length=7)))] + [
-            ("get", 2, b"u" * 16), ("put", 3, b"u" * 16), ("put of a text", 3, b"u" * 16 + b"text")]:
+    for name, message in [(f"{word} {kind}", message) for word in NOT_SERVED for kind, message in (
+            ("alone", ask(word)), ("with no body", request(OPERATIONS[word][0], b"")), ("with another length", ask(word, length=7)))]:
         session = prepared()
         yield ended(session, name, "what isn't served yet ends the run, whatever else is wrong with it, and the replies before it stand", 12,
-                    f"end 12 unbuilt frame {len(session.stream)}\n", framed(channel, payload) + framed(1, item))
-        if name.endswith("alone") or channel == 2:
+                    f"end 12 unbuilt frame {len(session.stream)}\n", framed(0, message) + framed(1, item))
+        if name.endswith("alone"):
             files = {"plan": session.plan, "tape": session.tape, "entropy": b""}
             yield case(f"{name}, first", "before INIT too; and cut by a byte it is no frame", files,
-                       ran("replay plan tape entropy", 12, b"", "end 12 unbuilt frame 0\n", framed(channel, payload)),
-                       ran("replay plan tape entropy", 7, b"", "end 7 frame 0\n", framed(channel, payload)[:-1]))
+                       ran("replay plan tape entropy", 12, b"", "end 12 unbuilt frame 0\n", framed(0, message)),
+                       ran("replay plan tape entropy", 7, b"", "end 7 frame 0\n", framed(0, message)[:-1]))
 
 
 class Draw:

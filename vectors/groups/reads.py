@@ -105,8 +105,6 @@ def ends():
     yield case("three bytes", "a stream of three bytes", files, ran("replay plan tape entropy", 7, b"", "end 7 frame 0\n", read[:3]))
     yield case("three bytes less", "a frame without its last three bytes", files,
                ran("replay plan tape entropy", 7, b"", "end 7 frame 0\n", read[:-3]))
-    yield case("a put", "a frame of a channel that isn't served yet", files,
-               ran("replay plan tape entropy", 12, b"", "end 12 unbuilt frame 0\n", b"\x14\0\0\0\3\0\0\0" + bytes(4) + b"aaaabbbbccccdddd"))
     yield case("input that fails", "standard input is a folder", files, ran("replay plan tape entropy", 5, b"", "end 5 read\n", broken=["stdin"]))
     yield case("output that fails", "no space for the reply", files, ran("replay plan tape entropy", 6, b"", "", asked((1, 0, 1)), broken=["stdout"]))
     yield case("log that fails", "no space for the end line", files, ran("nothing", 6, broken=["stderr"]))

@@ -88,24 +88,42 @@ second_true : (a b : Bool) → (a && b) ≡ true → b ≡ true
 second_true true b e = e
 second_true false b e = absurd cc
 
-salt_there : (i : InstanceLine) (salt : Option (List ℕ)) → is_some salt ≡ true → IsSalted (Some i) salt
-salt_there i None e = absurd cc
-salt_there i (Some bytes) e = tt
+-- a salt has 64 bytes
+abbrev IsLong : Option (List ℕ) → Type 0
+IsLong None = Unit {0}
+IsLong (Some bytes) = length bytes ≡ 64
 
-salted_from : (n : ℕ) (salt : Option (List ℕ)) (keyed there : Bool) (lines : List PlanLine) (numbers : List ℕ) → length numbers ≡ length lines → first_lacking keyed there lines numbers ≡ None
+long_added : (k later : Known) (n : ℕ) (item : Item) → IsLong k.salt → IsSaid item → add k n item ≡ Ok later → IsLong later.salt
+unfolding add
+long_added k later n (Secret bytes) s one e = subst (λ (z : Known). IsLong z.salt) (chosen _ _ _ _ e) s
+long_added k later n (InstanceSalt bytes) s one e = subst (λ (z : Known). IsLong z.salt) (chosen _ _ _ _ e) one.0
+long_added k later n (Line l) s one e = subst (λ (z : Known). IsLong z.salt) (chosen _ _ _ _ e) s
+
+long : (n : ℕ) (k later : Known) (items : List Item) → IsLong k.salt → AllByRecursion IsSaid items → collect add n k items ≡ Ok later → IsLong later.salt
+unfolding collect
+long n k later [] s each e = let same : k ≡ later = cc in subst (λ (z : Known). IsLong z.salt) same s
+long n k later (item ∷ items) s each e =
+    let b = bound (add k n item) _ later e in
+    long (n + 1) b.0 later items (long_added k b.0 n item s each.0 b.1) each.1 b.2
+
+salt_there : (i : InstanceLine) (salt : Option (List ℕ)) → IsLong salt → is_some salt ≡ true → IsSalted (Some i) salt
+salt_there i None s e = absurd cc
+salt_there i (Some bytes) s e = s
+
+salted_from : (n : ℕ) (salt : Option (List ℕ)) (keyed there : Bool) (lines : List PlanLine) (numbers : List ℕ) → IsLong salt → length numbers ≡ length lines → first_lacking keyed there lines numbers ≡ None
     → (keyed ≡ true → is_some salt ≡ true) → IsSalted (instance_from n lines) salt
 unfolding instance_from
-salted_from n salt keyed there [] numbers even e f = tt
-salted_from n salt keyed there (l ∷ lines) [] even e f = absurd (omega (arith, even))
-salted_from n salt keyed there (line.Instance disk part ∷ lines) (m ∷ numbers) even e f = salt_there (record { at = n; disk = disk; part = part }) salt (f (not_false keyed (rest_none (not keyed) m (first_lacking keyed there lines numbers) e).0))
-salted_from n salt keyed there (line.Blob file measure ∷ lines) (m ∷ numbers) even e f = salted_from (n + 1) salt keyed there lines numbers (omega (arith, even)) e f
-salted_from n salt keyed there (line.Apk disk apk idsig how ∷ lines) (m ∷ numbers) even e f = salted_from (n + 1) salt keyed there lines numbers (omega (arith, even)) (rest_none (is_kept how && not there) m (first_lacking keyed there lines numbers) e).1 f
-salted_from n salt keyed there (line.File name file digest ∷ lines) (m ∷ numbers) even e f = salted_from (n + 1) salt keyed there lines numbers (omega (arith, even)) e f
-salted_from n salt keyed there (line.Write name file ∷ lines) (m ∷ numbers) even e f = salted_from (n + 1) salt keyed there lines numbers (omega (arith, even)) e f
-salted_from n salt keyed there (line.WriteDir name file ∷ lines) (m ∷ numbers) even e f = salted_from (n + 1) salt keyed there lines numbers (omega (arith, even)) e f
+salted_from n salt keyed there [] numbers s even e f = tt
+salted_from n salt keyed there (l ∷ lines) [] s even e f = absurd (omega (arith, even))
+salted_from n salt keyed there (line.Instance disk part ∷ lines) (m ∷ numbers) s even e f = salt_there (record { at = n; disk = disk; part = part }) salt s (f (not_false keyed (rest_none (not keyed) m (first_lacking keyed there lines numbers) e).0))
+salted_from n salt keyed there (line.Blob file measure ∷ lines) (m ∷ numbers) s even e f = salted_from (n + 1) salt keyed there lines numbers s (omega (arith, even)) e f
+salted_from n salt keyed there (line.Apk disk apk idsig how ∷ lines) (m ∷ numbers) s even e f = salted_from (n + 1) salt keyed there lines numbers s (omega (arith, even)) (rest_none (is_kept how && not there) m (first_lacking keyed there lines numbers) e).1 f
+salted_from n salt keyed there (line.File name file digest ∷ lines) (m ∷ numbers) s even e f = salted_from (n + 1) salt keyed there lines numbers s (omega (arith, even)) e f
+salted_from n salt keyed there (line.Write name file ∷ lines) (m ∷ numbers) s even e f = salted_from (n + 1) salt keyed there lines numbers s (omega (arith, even)) e f
+salted_from n salt keyed there (line.WriteDir name file ∷ lines) (m ∷ numbers) s even e f = salted_from (n + 1) salt keyed there lines numbers s (omega (arith, even)) e f
 
 pub plan_salted : PlansAreSalted
-plan_salted text k p = salted_from 0 k.salt (has_keys k) (has_instance k) k.lines k.numbers (plan_numbered text k p) p.complete (second_true (is_some k.secret) (is_some k.salt))
+plan_salted text k p = salted_from 0 k.salt (has_keys k) (has_instance k) k.lines k.numbers (long 2 nothing k p.items.items tt p.items.each p.items.says) (plan_numbered text k p) p.complete (second_true (is_some k.secret) (is_some k.salt))
 
 -- ---- it is the only one
 

@@ -94,11 +94,11 @@ abbrev pub InstanceIsAlone : Type 0
 InstanceIsAlone = (text : List ℕ) (plan : Known) (at disk : ℕ) (part : List ℕ) → IsPlan text plan → slice_get plan.lines at ≡ Some (line.Instance disk part) →
     instance_in plan.lines ≡ Some (record { at = at; disk = disk; part = part })
 
--- where there is one, the plan has a salt
+-- where there is one, the plan has a salt, of 64 bytes
 abbrev pub IsSalted : Option InstanceLine → Option (List ℕ) → Type 0
 IsSalted None salt = Unit {0}
 IsSalted (Some i) None = ⊥
-IsSalted (Some i) (Some salt) = Unit {0}
+IsSalted (Some i) (Some salt) = length salt ≡ 64
 
 -- Law: so it is in a plan in the grammar.
 abbrev pub PlansAreSalted : Type 0
