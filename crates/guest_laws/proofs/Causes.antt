@@ -168,14 +168,14 @@ module _ (plan : Known) (h : Held) (world : World) (booted : Exchanges) (new : B
       read_none (number_of m) offset size fit.known.content true turn.sent turn.cause
       (file m f offset size l.k l.name there.0 p.digest is aim l.at p.number_is fit)) row.2.row
 
-  run_none : (g : Setting) (turns : List Turn) (old end : Moment) → g.items ≡ new.items → old.state.fuse.files ≡ files_at_boot plan.lines new.files → RunServed plan.lines h Stays g world old turns end
+  run_none : (g : Setting) (turns : List Turn) (old end : Moment) → g.items ≡ new.items → old.state.fuse.files ≡ files_at_boot plan.lines new.files → RunServed plan h Stays g world old turns end
       → AllByRecursion (λ t. AsksNoRecord g (request_of t.frame) → t.cause ≡ None) turns
   run_none g [] old end items same run = tt
   run_none g (turn ∷ turns) old end items same run =
       let mid : Moment = run.0 in
       let step : Step g world old turn mid = run.2 in
       let kept = files_kept g world old.sealings (trace old turn mid) (request_of turn.frame) old.state mid.state turn.sent turn.cause step.row in
-      (λ asks. turn_none g old turn mid items same (request_of turn.frame) refl asks step.row run.3 run.4, run_none g turns mid end items (kept ∙ same) run.7)
+      (λ asks. turn_none g old turn mid items same (request_of turn.frame) refl asks step.row run.3 run.4, run_none g turns mid end items (kept ∙ same) run.8)
 
 pub causes_none : HonestHostsCauseNone
 causes_none files plan store entropy old new ended s turns world r w sealed fits stay =

@@ -29,7 +29,7 @@ use Rattle.guest_laws.proofs.Heads.{head_read, tree_inside, made}
 
 -- ---- parts of exchanges
 
-in_left : (xs ys : Exchanges) (call : Call) (said : Said) → IsIn call said xs → IsIn call said (xs ++ ys)
+pub in_left : (xs ys : Exchanges) (call : Call) (said : Said) → IsIn call said xs → IsIn call said (xs ++ ys)
 in_left [] ys call said i = absurd i
 in_left (x ∷ xs) ys call said (inl e) = inl e
 in_left (x ∷ xs) ys call said (inr i) = inr (in_left xs ys call said i)

@@ -20,7 +20,7 @@ use Rattle.instance_image.proofs.Written.{length-disk}
 use Rattle.instance_image.proofs.Holding.{opens}
 use Rattle.guest_boot.specs.declared.faults.BootCause.{BootCause}
 use Rattle.guest_boot.specs.declared.faults.BootCause.TheVariants.{Gpt, NoPart, Apk, File, Image, Failed, Short, Memory}
-use Rattle.guest_boot.specs.Finding.{table_on, part_in}
+use Rattle.guest_boot.specs.Finding.{TableOn, table_on, part_in, one_part, Finds}
 use Rattle.guest_boot.specs.Booting.{later_of, ImageIsRefused, ImageFails}
 use Rattle.guest_laws.specs.Fitting.{AreTrue, HoldsInstance}
 use Rattle.guest_laws.proofs.Asking.{AreHeld}
@@ -57,6 +57,13 @@ module _ (h : Held) (disk : ℕ) (name salt : List ℕ) (holds : HoldsInstance h
   call_serves own call (inl n) = let s = sector_serves 0 some_sectors in (s.0, subst (λ (c : Call). serve h c [] ≡ Some (s.0, h)) (sym n.1) s.1)
   call_serves own call (inr n) = let s = sector_serves n.0.next n.2 in (s.0, subst (λ (c : Call). serve h c [] ≡ Some (s.0, h)) (sym n.3) s.1)
 
+  -- the part that was found is the one that is held
+  pub span_is : (own : Exchanges) → AreHeld h own → (first rest : Exchanges) → own ≡ first ++ rest → (new : List TableOn) (span : Span) → Finds [] disk (one_part name) first new span → span ≡ holds.span
+  span_is own heard first rest cut new span found =
+      let truly : AreTrue h disk own = λ call said i of. heard call said i in
+      let table = has_it h disk holds.on (table_on disk []) first found.table (knows_none disk holds.on.table) (true_left h disk own first rest cut truly) found.has in
+      span_same span holds.span (sym found.found_is ∙ ap (λ (z : Table). part_in z name) table ∙ holds.part)
+
   module _ (t : Trace) (heard : AreHeld h t.own) (calm : CanNotFail h t) where
     truly : AreTrue h disk t.own
     truly = λ call said i of. heard call said i
@@ -64,9 +71,7 @@ module _ (h : Held) (disk : ℕ) (name salt : List ℕ) (holds : HoldsInstance h
     -- an image that was refused
     module _ (f : ImageFault) (r : ImageIsRefused [] disk name salt f t) where
       span : r.span ≡ holds.span
-      span =
-          let table = has_it h disk holds.on (table_on disk []) r.first r.found.table (knows_none disk holds.on.table) (true_left h disk t.own r.first r.rest r.cut truly) r.found.has in
-          span_same r.span holds.span (sym r.found.found_is ∙ ap (λ (z : Table). part_in z name) table ∙ holds.part)
+      span = span_is t.own heard r.first r.rest r.cut r.new r.span r.found
 
       outcome : OpenOutcome here (Err f) (later_of t r.rest)
       outcome = subst (λ (s : Span). OpenOutcome (opening disk s salt) (Err f) (later_of t r.rest)) span r.outcome

@@ -12,6 +12,7 @@ pub mod Images
 pub mod Boots
 pub mod Staying
 pub mod Gets
+pub mod Laid
 pub mod Puts
 pub mod Sat
 mod Example

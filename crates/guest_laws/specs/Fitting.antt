@@ -120,10 +120,14 @@ FitsItem h content (line.Blob file m) = FitsBlob h content file m
 FitsItem h content (line.Apk disk apk idsig how) = FitsApk h content disk apk idsig how
 FitsItem h content other = ⊥
 
+-- what is held has an image of the plan's salt at its instance line, where it has one
+abbrev pub FitsInstance : Known → Held → Type 0
+FitsInstance plan h = (k disk : ℕ) (part salt : List ℕ) → slice_get plan.lines k ≡ Some (line.Instance disk part) → plan.salt ≡ Some salt
+    → HoldsInstance h disk part salt
+
 -- What is held has what each line of a plan needs, and the world each item's and each file's content.
 pub record Fits (plan : Known) (world : World) (h : Held) : Type 0 where
-  pub instance : (k disk : ℕ) (part salt : List ℕ) → slice_get plan.lines k ≡ Some (line.Instance disk part) → plan.salt ≡ Some salt
-      → HoldsInstance h disk part salt
+  pub instance : FitsInstance plan h
   pub items : (k : ℕ) (l : PlanLine) → item_line plan.lines k ≡ Some l → FitsItem h (world.item k) l
   pub files : (k : ℕ) (name : List ℕ) (file : ℕ) (digest : Digest) → slice_get plan.lines k ≡ Some (line.File name file digest)
       → FitsFile h (world.file file) file digest

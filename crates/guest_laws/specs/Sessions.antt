@@ -1,5 +1,5 @@
 -- What a boot and a session over a host in memory say, where it holds what the plan's lines need.
-use Rattle.std.specs.Prelude.{true, ◌≡◌, ◌≢◌, ◌⊎◌, ◌++◌, ℕ, List, [], ◌∷◌, length, slice_get, Option, Some, None, Result, Ok}
+use Rattle.std.specs.Prelude.{true, ◌≡◌, ◌≢◌, ◌⊎◌, ◌++◌, ℕ, List, [], ◌∷◌, length, ◌≤◌, slice_get, Option, Some, None, Result, Ok}
 use Rattle.std.specs.List.{AllByRecursion}
 use Rattle.mg_base.specs.declared.values.Digest.{Digest}
 use Rattle.host_traits.specs.Folders.{Files}
@@ -11,9 +11,10 @@ use Rattle.verity_path.specs.declared.device.Cause.{Cause}
 use Rattle.fuse_codec.specs.Message.{Message, Bad}
 use Rattle.fuse_server.specs.Aims.{reads, aim_of, number_of}
 use Rattle.instance_image.specs.declared.values.Part.{Part}
-use Rattle.instance_image.specs.Records.{find_part}
+use Rattle.instance_image.specs.Records.{find_part, fits_in}
 use Rattle.instance_image.specs.Sealings.{Sealing}
-use Rattle.instance_image.specs.Promised.{HoldsRecord}
+use Rattle.instance_image.specs.Promised.{HoldsRecord, MayBeWritten}
+use Rattle.guest_plan.specs.Plans.{Known}
 use Rattle.guest_plan.specs.declared.plan.PlanLine.{PlanLine}
 use Rattle.guest_plan.specs.declared.plan.PlanLine.TheVariants as line
 use Rattle.guest_boot.specs.declared.faults.BootFault.{BootFault}
@@ -25,7 +26,7 @@ use Rattle.guest_cli.specs.declared.session.SessionEnd.{SessionEnd}
 use Rattle.guest_cli.specs.Booted.{setting_of, first_state}
 use Rattle.guest_cli.specs.Session.{Streams}
 use Rattle.guest_cli.specs.Serve.{Recorded, SatOver, UnbootedOver}
-use Rattle.guest_laws.specs.Fitting.{Fits, FitsItem, FitsFile, item_line}
+use Rattle.guest_laws.specs.Fitting.{Fits, FitsInstance, FitsItem, FitsFile, item_line}
 
 -- a request that writes nothing to the host: any but a put where there is an instance image
 abbrev pub WritesNone : Setting → Request → Type 0
@@ -108,11 +109,25 @@ IsPutKept g old turn new = (i : Instance) (uuid text : List ℕ) (now : Held)
     → request_of turn.frame ≡ put_of uuid text → g.image ≡ Some i → length uuid ≡ 16 → old.told.held ≡ Some now → turn.sent ≡ sent_code 3 0
     → IsWritten i uuid text new
 
--- a run of which each step is such, with its reads and gets served and its puts kept
-abbrev pub RunServed : List PlanLine → Held → (PlanLine → Type 0) → Setting → World → Moment → List Turn → Moment → Type 0
-RunServed lines h Stays g world old [] new = old ≡ new
-RunServed lines h Stays g world old (turn ∷ turns) new = (mid : Moment) × IsEarly old.told.heard × Step g world old turn mid
-    × IsItemServed lines world h Stays turn × IsFileServed lines world h old turn × IsGetServed g old turn × IsPutKept g old turn mid × RunServed lines h Stays g world mid turns new
+-- The defined reply to a put that may be made: 0, or want of memory. Neither has a cause.
+pub data IsPutDefined : Sent → Option Cause → Type 0 where
+  written : IsPutDefined (sent_code 3 0) None
+  out_of_memory : IsPutDefined (sent_code 3 12) None
+
+-- Where an image was held at boot: a turn with a put of a text that fits, while entropy is left, into a partition whose sectors may
+-- be written then, has its defined reply.
+abbrev pub IsPutServed : Type 0 → Setting → Moment → Turn → Type 0
+IsPutServed Imaged g old turn = Imaged → (i : Instance) (uuid text : List ℕ) (p : Part) (now : Held)
+    → request_of turn.frame ≡ put_of uuid text → g.image ≡ Some i → fits_in old.state.parts uuid (length text) ≡ Ok p
+    → 12 ≤ length old.state.entropy → old.told.held ≡ Some now → MayBeWritten now (image_with i old.state.parts) p
+    → IsPutDefined turn.sent turn.cause
+
+-- a run of which each step is such, with its reads, gets and puts served and its puts kept
+abbrev pub RunServed : Known → Held → (PlanLine → Type 0) → Setting → World → Moment → List Turn → Moment → Type 0
+RunServed plan h Stays g world old [] new = old ≡ new
+RunServed plan h Stays g world old (turn ∷ turns) new = (mid : Moment) × IsEarly old.told.heard × Step g world old turn mid
+    × IsItemServed plan.lines world h Stays turn × IsFileServed plan.lines world h old turn × IsGetServed g old turn
+    × IsPutServed (FitsInstance plan h) g old turn × IsPutKept g old turn mid × RunServed plan h Stays g world mid turns new
 
 -- Over the host that a store list makes, where it holds what each line of the plan needs, boot doesn't end with a fault of a line:
 -- status 8 doesn't come.
@@ -124,7 +139,8 @@ BootsAreServed = (files : Option Files) (plan store entropy : List ℕ) (fault :
 -- each READ of a file, that the host holds at first as its line needs it has its defined reply: its bytes, or 22 where too many were
 -- asked for, or want of memory, and no cause. Of an item on the instance image's disk that is said of a session whose turns write
 -- nothing to the host. Each get of a record that the host holds then has its text, or want of memory, and a put that is answered
--- with 0 has left its record. What the host holds for other lines is no premise, nor is which calls fail: the host is honest, and of such a read or get none does.
+-- with 0 has left its record; where the host holds at first what the instance line needs, each put that may be made is answered so,
+-- or with want of memory. What the host holds for other lines is no premise, nor is which calls fail: the host is honest, and of such a read or get none does.
 abbrev pub SessionsAreServed : Type 0
 SessionsAreServed = (files : Option Files) (plan store entropy : List ℕ) (old new : Streams) (ended : Result (Unit {0}) SessionEnd)
     (s : SatOver files plan store entropy old new ended) (turns : List Turn) (world : World)
@@ -132,7 +148,7 @@ SessionsAreServed = (files : Option Files) (plan store entropy : List ℕ) (old 
     → IsWorld (setting_of s.made.planned.plan s.opened) (first_state s.made.planned.plan s.opened s.bytes) world (heard_of s.booted ++ heard_of (calls_of turns))
     → AreSealed (setting_of s.made.planned.plan s.opened) world (moment (first_state s.made.planned.plan s.opened s.bytes) s.mid (heard_of s.booted) []) turns
     (moment r.state s.finish (heard_of s.booted ++ heard_of (calls_of turns)) r.sealed) r.plain
-    → RunServed s.made.planned.plan.lines s.made.stock.held (StaysHeld (setting_of s.made.planned.plan s.opened) turns) (setting_of s.made.planned.plan s.opened) world
+    → RunServed s.made.planned.plan s.made.stock.held (StaysHeld (setting_of s.made.planned.plan s.opened) turns) (setting_of s.made.planned.plan s.opened) world
     (moment (first_state s.made.planned.plan s.opened s.bytes) s.mid (heard_of s.booted) []) turns
     (moment r.state s.finish (heard_of s.booted ++ heard_of (calls_of turns)) r.sealed)
 
