@@ -64,4 +64,4 @@ module _ (g : Setting) (world : World) (old : Moment) (turn : Turn) (new : Momen
       row_served turn.sent turn.cause row.1
 
 pub get_served : (g : Setting) (world : World) (old : Moment) (turn : Turn) (new : Moment) → Step g world old turn new → old.told.honest ≡ true → IsGetServed g old turn
-get_served g world old turn new step honest i uuid p z now request image found named told holds = served g world old turn new step honest i uuid p z now request image found named told holds
+get_served g world old turn new step honest i uuid z request image r = served g world old turn new step honest i uuid r.part z r.held request image r.found r.named r.held_is r.holds

@@ -80,7 +80,7 @@ IsImageLaid (Some i) parts = IsLaid (image_with i parts)
 same_parts : (image : Option Instance) (a b : List Part) → b ≡ a → IsImageLaid image a → IsImageLaid image b
 same_parts image a b e l = subst (IsImageLaid image) (sym e) l
 
-fault_keeps : (k now : Kept) (uuid text : List ℕ) (why : PutFault) (t : Trace) → PutOutcome k uuid text now (Err why) t → now ≡ k
+pub fault_keeps : (k now : Kept) (uuid text : List ℕ) (why : PutFault) (t : Trace) → PutOutcome k uuid text now (Err why) t → now ≡ k
 fault_keeps k now uuid text (puts.Failed faults) t o = o.0
 fault_keeps k now uuid text puts.Memory t o = o.0
 fault_keeps k now uuid text puts.NoRecord t o = o.0

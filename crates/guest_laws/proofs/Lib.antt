@@ -14,6 +14,7 @@ pub mod Staying
 pub mod Gets
 pub mod Laid
 pub mod Puts
+pub mod Kept
 pub mod Sat
 mod Example
 pub mod Causes

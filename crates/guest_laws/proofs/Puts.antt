@@ -44,7 +44,7 @@ module _ (g : Setting) (world : World) (old : Moment) (turn : Turn) (new : Momen
   call_is call given f =
       subst (λ (o : Option Instance). IsForPut o old.state uuid text call given) image (subst (λ (q : Request). IsFor g old.state q call given) request f)
 
-  did : (r : Result (Unit {0}) PutFault) → PutOutcome kept uuid text (image_with i new.state.parts) r (trace old turn new)
+  pub did : (r : Result (Unit {0}) PutFault) → PutOutcome kept uuid text (image_with i new.state.parts) r (trace old turn new)
       → DidPut kept i.secret uuid nonce text old.told new.told (image_with i new.state.parts) r
   did r outcome = record {
     own = turn.own;
@@ -67,14 +67,16 @@ module _ (g : Setting) (world : World) (old : Moment) (turn : Turn) (new : Momen
         let parts : new.state.parts ≡ keep_size old.state.parts uuid size = ap (λ (k : Kept). k.parts) outcome.1.now_is in
         let record_held = put_now.holds in
         record {
-          part = record p { size = size };
-          found = ap (λ (ps : List Part). find_part ps uuid) parts ∙ sizes_kept old.state.parts uuid size ∙ ap (λ (o : Option Part). resized_part o size) before;
           sealing = sealing_of p uuid nonce text;
-          uuid_is = refl;
           text_is = refl;
-          held = put_now.held;
-          held_is = put_now.held_is;
-          holds = record { disk = record_held.disk; is = record_held.is; room = record_held.room; begins = record_held.begins; size_is = record_held.size_is };
+          stands = record {
+            named = refl;
+            part = record p { size = size };
+            found = ap (λ (ps : List Part). find_part ps uuid) parts ∙ sizes_kept old.state.parts uuid size ∙ ap (λ (o : Option Part). resized_part o size) before;
+            held = put_now.held;
+            held_is = put_now.held_is;
+            holds = record { disk = record_held.disk; is = record_held.is; room = record_held.room; begins = record_held.begins; size_is = record_held.size_is };
+          };
         }
 
     row_kept : (sent : Sent) (cause : Option Cause) → PutRow g.image (trace old turn new) uuid text old.state new.state sent cause → sent ≡ sent_code 3 0 → IsWritten i uuid text new
@@ -118,7 +120,7 @@ module _ (g : Setting) (world : World) (old : Moment) (turn : Turn) (new : Momen
   is_served : IsPutDefined turn.sent turn.cause
   is_served = row_served turn.sent turn.cause (subst (λ (q : Request). Row g world old.sealings (trace old turn new) q old.state new.state turn.sent turn.cause) request step.row)
 
-laid_in : (image : Option Instance) (i : Instance) (parts : List Part) → image ≡ Some i → IsImageLaid image parts → IsLaid (image_with i parts)
+pub laid_in : (image : Option Instance) (i : Instance) (parts : List Part) → image ≡ Some i → IsImageLaid image parts → IsLaid (image_with i parts)
 laid_in image i parts e l = subst (λ (o : Option Instance). IsImageLaid o parts) e l
 
 pub put_served : (Imaged : Type 0) (g : Setting) (world : World) (old : Moment) (turn : Turn) (new : Moment) → Step g world old turn new → old.told.honest ≡ true → (Imaged → IsImageLaid g.image old.state.parts)

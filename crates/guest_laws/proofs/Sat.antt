@@ -56,6 +56,7 @@ use Rattle.guest_laws.proofs.Fits.{in_left}
 use Rattle.guest_laws.proofs.Items.{served_line}
 use Rattle.guest_laws.proofs.Lines.{same_line, get_last, keeps}
 use Rattle.guest_laws.proofs.Gets.{get_served}
+use Rattle.guest_laws.proofs.Kept.{record_kept}
 use Rattle.guest_laws.proofs.Puts.{put_kept, put_served}
 use Rattle.guest_laws.proofs.Laid.{IsImageLaid, row_laid, opened_laid, span_ends}
 use Rattle.guest_laws.proofs.Images.{span_is}
@@ -207,6 +208,7 @@ module _ (g : Setting) (world : World) (plan : Known) (h : Held) (all : List Tur
         get_served g world old turn mid step honest,
         put_served (FitsInstance plan h) g world old turn mid step honest laid,
         put_kept g world old turn mid step,
+        record_kept (FitsInstance plan h) g world old turn mid step laid,
         run_served turns mid new next.0 run.3 next.1 next.2
             (λ imaged. row_laid g world old.sealings (trace old turn mid) (request_of turn.frame) old.state mid.state turn.sent turn.cause step.row (laid imaged)) (step.talked.honest ∙ honest)
             (opened_at old.state mid.state old.heard mid.heard (heard_of turn.own) same step.heard opened) (world_at g old.state mid.state world new.heard same w) wants,

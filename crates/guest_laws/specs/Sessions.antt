@@ -84,30 +84,37 @@ pub data IsGetDefined (text : List ℕ) : Sent → Option Cause → Type 0 where
   whole : IsGetDefined text (sent_text text) None
   no_room : IsGetDefined text (sent_code 2 12) None
 
--- a turn with a get of a UUID whose record is held then has its defined reply
-abbrev pub IsGetServed : Setting → Moment → Turn → Type 0
-IsGetServed g old turn = (i : Instance) (uuid : List ℕ) (p : Part) (z : Sealing) (now : Held)
-    → request_of turn.frame ≡ get_of uuid → g.image ≡ Some i → find_part old.state.parts uuid ≡ Some p → z.uuid ≡ uuid
-    → old.told.held ≡ Some now → HoldsRecord now (image_with i old.state.parts) i.secret p z
-    → IsGetDefined z.text turn.sent turn.cause
-
--- The host holds the record of a text after a turn: of the partition of its UUID, with the size that the machine then keeps. So a
--- get of it then is such.
-pub record IsWritten (i : Instance) (uuid text : List ℕ) (new : Moment) : Type 0 where
+-- A sealed text stands as the record of a UUID: the host holds it in the partition of the UUID, with the size that the machine keeps.
+pub record RecordStands (i : Instance) (uuid : List ℕ) (z : Sealing) (m : Moment) : Type 0 where
+  pub named : z.uuid ≡ uuid
   pub part : Part
-  pub found : find_part new.state.parts uuid ≡ Some part
-  pub sealing : Sealing
-  pub uuid_is : sealing.uuid ≡ uuid
-  pub text_is : sealing.text ≡ text
+  pub found : find_part m.state.parts uuid ≡ Some part
   pub held : Held
-  pub held_is : new.told.held ≡ Some held
-  pub holds : HoldsRecord held (image_with i new.state.parts) i.secret part sealing
+  pub held_is : m.told.held ≡ Some held
+  pub holds : HoldsRecord held (image_with i m.state.parts) i.secret part z
 
--- a turn with a put into a UUID of 16 bytes that is answered with 0 has left its record
+-- a turn with a get of a UUID whose record stands has its defined reply
+abbrev pub IsGetServed : Setting → Moment → Turn → Type 0
+IsGetServed g old turn = (i : Instance) (uuid : List ℕ) (z : Sealing)
+    → request_of turn.frame ≡ get_of uuid → g.image ≡ Some i → RecordStands i uuid z old → IsGetDefined z.text turn.sent turn.cause
+
+-- a record that is put in a turn: it stands after it
+pub record IsWritten (i : Instance) (uuid text : List ℕ) (new : Moment) : Type 0 where
+  pub sealing : Sealing
+  pub text_is : sealing.text ≡ text
+  pub stands : RecordStands i uuid sealing new
+
+-- a turn with a put into a UUID of 16 bytes that is answered with 0 has put its record
 abbrev pub IsPutKept : Setting → Moment → Turn → Moment → Type 0
 IsPutKept g old turn new = (i : Instance) (uuid text : List ℕ) (now : Held)
     → request_of turn.frame ≡ put_of uuid text → g.image ≡ Some i → length uuid ≡ 16 → old.told.held ≡ Some now → turn.sent ≡ sent_code 3 0
     → IsWritten i uuid text new
+
+-- Where an image was held at boot: a record that stands, stands after each turn but a put into its UUID that is answered with 0.
+abbrev pub IsRecordKept : Type 0 → Setting → Moment → Turn → Moment → Type 0
+IsRecordKept Imaged g old turn new = Imaged → (i : Instance) (uuid : List ℕ) (z : Sealing) → g.image ≡ Some i
+    → ((text : List ℕ) → request_of turn.frame ≡ put_of uuid text → turn.sent ≡ sent_code 3 0 → ⊥)
+    → RecordStands i uuid z old → RecordStands i uuid z new
 
 -- The defined reply to a put that may be made: 0, or want of memory. Neither has a cause.
 pub data IsPutDefined : Sent → Option Cause → Type 0 where
@@ -122,12 +129,13 @@ IsPutServed Imaged g old turn = Imaged → (i : Instance) (uuid text : List ℕ)
     → 12 ≤ length old.state.entropy → old.told.held ≡ Some now → MayBeWritten now (image_with i old.state.parts) p
     → IsPutDefined turn.sent turn.cause
 
--- a run of which each step is such, with its reads, gets and puts served and its puts kept
+-- a run of which each step is such, with its reads, gets and puts served, and its records kept
 abbrev pub RunServed : Known → Held → (PlanLine → Type 0) → Setting → World → Moment → List Turn → Moment → Type 0
 RunServed plan h Stays g world old [] new = old ≡ new
 RunServed plan h Stays g world old (turn ∷ turns) new = (mid : Moment) × IsEarly old.told.heard × Step g world old turn mid
     × IsItemServed plan.lines world h Stays turn × IsFileServed plan.lines world h old turn × IsGetServed g old turn
-    × IsPutServed (FitsInstance plan h) g old turn × IsPutKept g old turn mid × RunServed plan h Stays g world mid turns new
+    × IsPutServed (FitsInstance plan h) g old turn × IsPutKept g old turn mid
+    × IsRecordKept (FitsInstance plan h) g old turn mid × RunServed plan h Stays g world mid turns new
 
 -- Over the host that a store list makes, where it holds what each line of the plan needs, boot doesn't end with a fault of a line:
 -- status 8 doesn't come.
@@ -138,7 +146,7 @@ BootsAreServed = (files : Option Files) (plan store entropy : List ℕ) (fault :
 -- A session of `serve`, over the host that a store list makes, whose turns these are. It is a run in which each read of an item, and
 -- each READ of a file, that the host holds at first as its line needs it has its defined reply: its bytes, or 22 where too many were
 -- asked for, or want of memory, and no cause. Of an item on the instance image's disk that is said of a session whose turns write
--- nothing to the host. Each get of a record that the host holds then has its text, or want of memory, and a put that is answered
+-- nothing to the host. Each get of a record that stands has its text, or want of memory, and a put that is answered
 -- with 0 has left its record; where the host holds at first what the instance line needs, each put that may be made is answered so,
 -- or with want of memory. What the host holds for other lines is no premise, nor is which calls fail: the host is honest, and of such a read or get none does.
 abbrev pub SessionsAreServed : Type 0

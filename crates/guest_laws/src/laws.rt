@@ -25,9 +25,9 @@ pub fn boots_are_served()
 {}
 
 /// A session of `serve` over the host that a store list makes, in a world that meets the premises: each read of an item or a file
-/// that the host holds as its line needs it has its defined reply, each get of a record that it holds then its text, or want of
-/// memory, and none has a cause. Of an item on the instance image's disk that is so where no record is written. Its contract is
-/// the law; it does nothing.
+/// that the host holds as its line needs it has its defined reply, and each get of a record that stands its text, or want of memory,
+/// and none has a cause; of an item on the instance image's disk that is so where no record is written. A put that is answered with
+/// 0 has put its record, and it stands until the next such put into its UUID. Its contract is the law; it does nothing.
 pub fn sessions_are_served()
     ensures { SessionsAreServed }
 {}
