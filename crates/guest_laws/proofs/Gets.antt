@@ -1,5 +1,5 @@
 -- A get of a record that an honest host holds.
-use Rattle.std.proofs.Common.{◌≡◌, ◌≤◌, ◌∙◌, ℕ, true, List, length, Option, Some, None, Result, Ok, Err, refl, ap, sym, subst, inr}
+use Rattle.std.proofs.Common.{◌≡◌, ◌≤◌, ◌∙◌, ℕ, true, List, length, Option, Some, None, Result, Ok, Err, sym, subst, inr}
 use Rattle.host_traits.specs.declared.calls.Call.{Call}
 use Rattle.host_traits.specs.Held.{Held}
 use Rattle.host_traits.specs.Did.{Did, reads as reading}
@@ -7,7 +7,6 @@ use Rattle.host_traits.proofs.Doing.{each_so}
 use Rattle.session_frames.specs.Replies.{Sent}
 use Rattle.verity_path.specs.declared.device.Cause.{Cause}
 use Rattle.instance_image.specs.declared.faults.GetFault.{GetFault}
-use Rattle.instance_image.specs.declared.faults.GetFault.TheVariants as gets
 use Rattle.instance_image.specs.declared.values.Part.{Part}
 use Rattle.instance_image.specs.Records.{Kept, find_part}
 use Rattle.instance_image.specs.Sealings.{Sealing}

@@ -1,5 +1,5 @@
 -- A record that stands, stands after each turn but a put into its UUID that is answered with 0.
-use Rattle.std.proofs.Common.{◌≡◌, ◌≢◌, ◌∙◌, ℕ, Bool, List, [], ◌∷◌, ◌++◌, ◌≤◌, length, take, Option, Some, None, Result, Ok, Err, refl, ap, sym, subst, arith}
+use Rattle.std.proofs.Common.{◌≡◌, ◌≢◌, ◌∙◌, ℕ, Bool, List, [], ◌∷◌, ◌++◌, ◌≤◌, length, Option, Some, None, Result, Ok, Err, refl, ap, sym, subst, arith}
 use Rattle.std.proofs.lemmas.List.{length-take}
 use Rattle.host_traits.specs.declared.calls.Call.{Call}
 use Rattle.host_traits.specs.declared.calls.Said.{Said}
@@ -11,7 +11,7 @@ use Rattle.instance_image.specs.declared.faults.PutFault.{PutFault}
 use Rattle.instance_image.specs.declared.values.Part.{Part}
 use Rattle.instance_image.specs.Records.{Kept, IsLaid, find_part, keep_size}
 use Rattle.instance_image.specs.Access.{PutOutcome, payload_size}
-use Rattle.instance_image.specs.Promised.{HoldsRecord, PutStands, PutLeaves}
+use Rattle.instance_image.specs.Promised.{PutStands, PutLeaves}
 use Rattle.instance_image.specs.Sealings.{Sealing}
 use Rattle.instance_image.proofs.Others.{others_kept, put_right}
 use Rattle.guest_rules.specs.Machine.{Instance, Setting, State, World, Moment, Turn, Request, request_of, message_of, read_of, get_of, put_of, unbuilt, image_with}

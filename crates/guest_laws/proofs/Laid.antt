@@ -1,5 +1,5 @@
 -- The partitions of an image that opened stand one behind another, and do so after each request.
-use Rattle.std.proofs.Common.{◌≡◌, ◌+◌, ◌*◌, ◌^◌, ◌≤◌, ◌<◌, ◌∙◌, ℕ, List, [], ◌∷◌, ◌++◌, length, take, drop, Option, Some, None, Result, Ok, Err, refl, ap, sym, subst, inl, inr, arith}
+use Rattle.std.proofs.Common.{◌≡◌, ◌+◌, ◌*◌, ◌^◌, ◌≤◌, ◌∙◌, ℕ, List, [], ◌∷◌, length, take, drop, Option, Some, None, Ok, Err, ap, sym, subst, inl, inr, arith}
 use Rattle.std.specs.Prelude.{◌-◌}
 use Rattle.std.proofs.lemmas.List.{length-append}
 use Rattle.mg_base.specs.declared.values.Span.{Span}
@@ -8,12 +8,11 @@ use Rattle.host_traits.specs.Told.{Exchanges}
 use Rattle.host_traits.specs.Did.{Trace}
 use Rattle.session_frames.specs.Replies.{Sent}
 use Rattle.verity_path.specs.declared.device.Cause.{Cause}
-use Rattle.gpt.specs.declared.values.Table.{Table}
 use Rattle.gpt.specs.Names.{part}
 use Rattle.instance_image.specs.declared.faults.PutFault.{PutFault}
 use Rattle.instance_image.specs.declared.faults.PutFault.TheVariants as puts
 use Rattle.instance_image.specs.declared.values.Part.{Part}
-use Rattle.instance_image.specs.Records.{Kept, IsLaid, find_part, fits_in}
+use Rattle.instance_image.specs.Records.{Kept, IsLaid}
 use Rattle.instance_image.specs.Opening.{Opening, Reading, start, with_part, HeardHeaders, HeardSoFar, IsClosed, IsOpened, kept_of}
 use Rattle.instance_image.specs.Access.{PutOutcome, payload_size}
 use Rattle.instance_image.specs.Sealings.{Sealing}

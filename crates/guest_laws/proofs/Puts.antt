@@ -1,5 +1,5 @@
 -- A put that was answered with 0 has left its record.
-use Rattle.std.proofs.Common.{◌≡◌, ◌≤◌, ◌∙◌, ℕ, List, length, take, Option, Some, None, Result, Ok, Err, refl, ap, sym, subst, inr, true, arith}
+use Rattle.std.proofs.Common.{◌≡◌, ◌≤◌, ◌∙◌, ℕ, List, length, Option, Some, Result, Ok, Err, refl, ap, sym, subst, inr, true, arith}
 use Rattle.std.proofs.lemmas.List.{length-take}
 use Rattle.host_traits.specs.declared.calls.Call.{Call}
 use Rattle.host_traits.specs.Held.{Held}
@@ -16,7 +16,7 @@ use Rattle.instance_image.specs.Staying.{resized_part}
 use Rattle.instance_image.proofs.Accesses.{fits_found}
 use Rattle.instance_image.proofs.Others.{sizes_kept, put_right}
 use Rattle.instance_image.proofs.Promises.{DidPut, puts_held, puts_hold}
-use Rattle.guest_rules.specs.Machine.{Instance, Setting, State, World, Moment, Turn, Request, request_of, put_of, image_with}
+use Rattle.guest_rules.specs.Machine.{Instance, Setting, World, Moment, Turn, Request, request_of, put_of, image_with}
 use Rattle.guest_rules.specs.RecordRow.{PutRow, no_image, refused, no_entropy, put, put_code, put_cause, nonce_of, IsForPut}
 use Rattle.guest_rules.specs.Step.{Step, Row, IsFor, most_for, trace}
 use Rattle.guest_laws.specs.Sessions.{IsWritten, IsPutKept, IsPutDefined, written, out_of_memory, IsPutServed}

@@ -1,31 +1,26 @@
 -- A session over an honest host that holds what the plan's lines need.
-use Rattle.std.proofs.Common.{◌≡◌, ◌+◌, ◌*◌, ◌∙◌, ℕ, zero, suc, Bool, true, List, [], ◌∷◌, ◌++◌, length, ◌<◌, ◌≤◌, Option, Some, None, Result, Ok, Err, refl, ap, sym, subst, inl, inr, arith}
+use Rattle.std.proofs.Common.{◌≡◌, ◌+◌, ◌*◌, ◌∙◌, ℕ, zero, suc, Bool, true, List, [], ◌∷◌, ◌++◌, length, ◌<◌, ◌≤◌, Option, Some, None, refl, ap, sym, subst, inl, inr, arith}
 use Rattle.std.specs.Prelude.{slice_get}
-use Rattle.mg_base.specs.declared.errno.Errno.{Errno}
 use Rattle.mg_base.specs.declared.values.Digest.{Digest}
 use Rattle.std.proofs.lemmas.List.{length-append}
 use Rattle.host_traits.specs.declared.calls.Call.{Call}
 use Rattle.host_traits.specs.declared.calls.TapeItem.{TapeItem}
 use Rattle.host_traits.specs.Held.{Held}
-use Rattle.host_traits.specs.Told.{Told, Exchanges, Made, HeldAfter, heard_of, failures_of}
-use Rattle.host_traits.specs.Did.{IsIn, reads as reading, trace_of}
-use Rattle.host_traits.proofs.Doing.{each_so}
+use Rattle.host_traits.specs.Told.{Told, Exchanges, Made, heard_of, failures_of}
+use Rattle.host_traits.specs.Did.{IsIn, trace_of}
 use Rattle.sha_tree.specs.declared.measure.Measure.{Measure}
-use Rattle.sha_tree.specs.Tree.{ancestor, page, pages_at, top}
+use Rattle.sha_tree.specs.Tree.{page, pages_at, top}
 use Rattle.sha_tree.specs.Measured.{IsMeasured}
 use Rattle.verity_path.specs.Holding.{HoldsAt}
 use Rattle.verity_path.specs.declared.device.Device.{Device}
 use Rattle.verity_path.specs.declared.walk.Layout.{Layout}
-use Rattle.ro_file.specs.Files.{MeasuredFile, layout_of}
+use Rattle.ro_file.specs.Files.{MeasuredFile}
 use Rattle.ro_file.specs.Contents.{IsContentOf}
-use Rattle.fuse_server.specs.Aims.{Aim, says, makes, reads, aim_of, number_of}
-use Rattle.fuse_server.specs.Rows.{IsForFuse}
+use Rattle.fuse_server.specs.Aims.{number_of}
 use Rattle.fuse_server.proofs.Keeping.{aim_file}
 use Rattle.guest_plan.specs.Plans.{Known}
 use Rattle.guest_plan.specs.declared.plan.PlanLine.{PlanLine}
 use Rattle.guest_plan.specs.declared.plan.PlanLine.TheVariants as line
-use Rattle.instance_image.specs.declared.values.Part.{Part}
-use Rattle.instance_image.specs.Records.{sectors_of}
 use Rattle.guest_boot.specs.Booting.{AreServed, Booted, Boots, PlanBoots, LineBoots, InstanceLine, InstanceBoots, instance_in, device_on, before_lines}
 use Rattle.guest_boot.proofs.Instances.{stands}
 use Rattle.guest_boot.proofs.Plans.{stays as images_stay}
@@ -33,13 +28,10 @@ use Rattle.instance_image.specs.Records.{Kept, IsLaid}
 use Rattle.instance_image.specs.Opening.{opening, IsOpened}
 use Rattle.mg_base.specs.declared.values.Span.{Span}
 use Rattle.guest_boot.proofs.Makes.{device_is_item}
-use Rattle.guest_rules.specs.Machine.{Instance, Setting, State, World, Salted, Moment, Turn, Request, IsItem, request_of, message_of, read_of, get_of, put_of, unbuilt, moment}
-use Rattle.guest_rules.specs.RecordRow.{IsForGet, IsForPut}
-use Rattle.guest_rules.specs.Step.{Step, IsFor, trace}
+use Rattle.guest_rules.specs.Machine.{Instance, Setting, State, World, Salted, Moment, Turn, IsItem, request_of, moment}
+use Rattle.guest_rules.specs.Step.{Step, trace}
 use Rattle.guest_rules.specs.Run.{Run, IsWorld, AreSealed, AreOpened, calls_of}
 use Rattle.guest_rules.specs.Faithful.{HoldsDevice, HoldsContent, IsDefined, IsReadDefined}
-use Rattle.guest_rules.proofs.Holding.{IsReading, of_blocks, reads_keep}
-use Rattle.guest_rules.proofs.Devices.{page_reads}
 use Rattle.guest_rules.proofs.Serving.{all_served, files_served}
 use Rattle.guest_rules.proofs.Standing.{run_heard, world_first, world_at, known_by, files_kept, opened_at}
 use Rattle.guest_plan.proofs.Whole.{plan_takes}
