@@ -146,9 +146,10 @@ BootsAreServed = (files : Option Files) (plan store entropy : List ℕ) (fault :
 -- A session of `serve`, over the host that a store list makes, whose turns these are. It is a run in which each read of an item, and
 -- each READ of a file, that the host holds at first as its line needs it has its defined reply: its bytes, or 22 where too many were
 -- asked for, or want of memory, and no cause. Of an item on the instance image's disk that is said of a session whose turns write
--- nothing to the host. Each get of a record that stands has its text, or want of memory, and a put that is answered
--- with 0 has left its record; where the host holds at first what the instance line needs, each put that may be made is answered so,
--- or with want of memory. What the host holds for other lines is no premise, nor is which calls fail: the host is honest, and of such a read or get none does.
+-- nothing to the host. Each get of a record that stands has its text, or want of memory, and a put that is answered with 0 has put
+-- its record. Where the host holds at first what the instance line needs, each put that may be made is answered with 0, or with want
+-- of memory, and a record stands until the next put into its UUID. What the host holds for other lines is no premise, nor is which
+-- calls fail: the host is honest, and of such a request none does.
 abbrev pub SessionsAreServed : Type 0
 SessionsAreServed = (files : Option Files) (plan store entropy : List ℕ) (old new : Streams) (ended : Result (Unit {0}) SessionEnd)
     (s : SatOver files plan store entropy old new ended) (turns : List Turn) (world : World)
