@@ -69,6 +69,10 @@ boot_call (line.Apk disk apk idsig how) call (inl (inr (inl e))) = subst IsBootC
 boot_call (line.Apk disk apk idsig how) call (inl (inr (inr t))) = subst IsBootCall (sym t.2) (of_sectors disk (t.0 - 40) 40)
 boot_call (line.Apk disk apk idsig how) call (inr p) = subst IsBootCall (sym p.1) (of_sectors disk p.0.first (min p.0.sectors 136))
 boot_call (line.File name file digest) call e = subst IsBootCall (sym e) (of_descriptor file)
+boot_call (line.Instance disk part) call (inl (inl e)) = subst IsBootCall (sym e) (of_size disk)
+boot_call (line.Instance disk part) call (inl (inr (inl e))) = subst IsBootCall (sym e) (of_sectors disk 0 40)
+boot_call (line.Instance disk part) call (inl (inr (inr t))) = subst IsBootCall (sym t.2) (of_sectors disk (t.0 - 40) 40)
+boot_call (line.Instance disk part) call (inr p) = subst IsBootCall (sym p.1) (of_sectors disk p.0 1)
 boot_call other call e = absurd e
 
 -- ---- the last call that failed

@@ -8,13 +8,15 @@ use Rattle.host_traits.specs.Told.{Exchanges, Made, HeldAfter, heard_of, failure
 use Rattle.host_traits.specs.Did.{Trace, trace_of, IsIn, Each, reads}
 use Rattle.host_traits.proofs.Doing.{each_so, in_right}
 use Rattle.gpt.specs.declared.values.Table.{Table}
+use Rattle.guest_plan.specs.Plans.{Known}
 use Rattle.guest_plan.specs.declared.plan.PlanLine.{PlanLine}
 use Rattle.guest_plan.specs.declared.plan.PlanLine.TheVariants as line
 use Rattle.guest_boot.specs.declared.faults.BootCause.{BootCause}
-use Rattle.guest_boot.specs.declared.faults.BootCause.TheVariants.{Gpt, NoPart, Apk, File, Failed, Short, Memory}
+use Rattle.guest_boot.specs.declared.faults.BootCause.TheVariants.{Gpt, NoPart, Apk, File, Image, Failed, Short, Memory}
 use Rattle.guest_boot.specs.declared.faults.BootFault.{BootFault}
 use Rattle.guest_boot.specs.Finding.{ReadsTable}
-use Rattle.guest_boot.specs.Booting.{Booted, Boots, IsFault, IsForLines, LineFails, BlobFails, later_of, nothing}
+use Rattle.guest_boot.specs.Booting.{Booted, Boots, BootsFrom, before_lines, instance_in, IsFault, IsForLines, LineFails, BlobFails, later_of}
+use Rattle.guest_boot.proofs.Instances.{stands}
 use Rattle.guest_rules.specs.Machine.{World}
 use Rattle.guest_cli.specs.declared.boot.Machine.{Machine}
 use Rattle.guest_cli.specs.Booted.{BootedOutcome}
@@ -22,7 +24,8 @@ use Rattle.guest_laws.specs.Fitting.{AreTrue, Fits, makes_item, item_line}
 use Rattle.guest_laws.specs.Passing.{BootsPass}
 use Rattle.guest_laws.proofs.Asking.{AreHeld, IsBootCall, boot_held, boot_call, not_failed}
 use Rattle.guest_laws.proofs.Fits.{Knows, true_table, true_left, true_right}
-use Rattle.guest_laws.proofs.Lines.{knows_none, line_knows}
+use Rattle.guest_laws.proofs.Images.{image_passes}
+use Rattle.guest_laws.proofs.Lines.{line_knows, instance_knows}
 use Rattle.guest_laws.proofs.Passes.{CanNotFail, apk_passes, file_passes}
 
 -- ---- the line that failed is one of the plan's
@@ -54,19 +57,23 @@ blob_passes (Gpt f) e = absurd e
 blob_passes (NoPart name) e = absurd e
 blob_passes (Apk f) e = absurd e
 blob_passes (File f) e = absurd e
+blob_passes (Image f) e = absurd e
 blob_passes (Failed faults) e = absurd e
 blob_passes (Short asked got) e = absurd e
 
-module _ (lines : List PlanLine) (numbers entropy : List ℕ) (world : World) (h : Held) (fits : Fits lines world h) (t : Trace) (heard : AreHeld h t.own) (calm : CanNotFail h t) where
-  line_passes : (before : List PlanLine) (l : PlanLine) (after : List PlanLine) (first rest : Exchanges) (mid : Booted) (why : BootCause) → lines ≡ before ++ l ∷ after → t.own ≡ first ++ rest
-      → Boots nothing before first mid → LineFails mid l why (later_of t rest) → why ≡ Memory
+module _ (plan : Known) (entropy : List ℕ) (world : World) (h : Held) (fits : Fits plan world h) (t : Trace) (heard : AreHeld h t.own) (calm : CanNotFail h t) where
+  line_passes : (before : List PlanLine) (l : PlanLine) (after : List PlanLine) (first rest : Exchanges) (mid : Booted) (why : BootCause) → plan.lines ≡ before ++ l ∷ after → t.own ≡ first ++ rest
+      → BootsFrom (instance_in plan.lines) plan.salt before first mid → LineFails mid l why (later_of t rest) → why ≡ Memory
   line_passes before (line.Blob file m) after first rest mid why are cut booted fails = blob_passes why fails.1
   line_passes before (line.Apk disk apk idsig how) after first rest mid why are cut booted fails =
       let l : PlanLine = line.Apk disk apk idsig how in
       let f = fits.items (length (filter makes_item before)) l (subst (λ (z : List PlanLine). item_line z (length (filter makes_item before)) ≡ Some l) (sym are) (item_at before l after refl)) in
+      let table : Table = f.holds.on.table in
       let truly : AreTrue h disk t.own = λ call said i of. heard call said i in
-      let read = true_table h disk apk idsig how f.measure f.bytes f.holds in
-      let known = knows_all h disk f.holds.table read before nothing mid first booted (knows_none disk f.holds.table) (true_left h disk t.own first rest cut truly) in
+      let read = true_table h disk f.holds.on in
+      let front : AreTrue h disk first = true_left h disk t.own first rest cut truly in
+      let at_first = instance_knows h disk table read (instance_in plan.lines) plan.salt booted.first booted.tables booted.image booted.before (true_left h disk first booted.first booted.rest booted.cut front) in
+      let known = knows_all h disk table read before (before_lines booted.tables booted.image) mid booted.rest booted.others at_first (true_right h disk first booted.first booted.rest booted.cut front) in
       apk_passes h disk apk idsig how f.measure f.bytes f.holds f.measured mid (later_of t rest) (true_right h disk t.own first rest cut truly) known calm why fails
   line_passes before (line.File name file digest) after first rest mid why are cut booted fails =
       let l : PlanLine = line.File name file digest in
@@ -75,10 +82,14 @@ module _ (lines : List PlanLine) (numbers entropy : List ℕ) (world : World) (h
       file_passes h file digest f.known.content f.known.salt f.holds (later_of t rest) truly calm why fails
   line_passes before other after first rest mid why are cut booted fails = absurd fails
 
-  pub fault_passes : (fault : BootFault) → IsFault lines numbers fault t → fault.why ≡ Memory
-  fault_passes fault f = line_passes f.before f.line f.after f.first f.rest f.mid fault.why f.lines_are f.cut f.booted f.fails
+  pub fault_passes : (fault : BootFault) → IsFault plan.salt plan.lines plan.numbers fault t → fault.why ≡ Memory
+  fault_passes fault (inl f) =
+      let i = f.instance in
+      let holds = fits.instance i.at i.disk i.part f.bytes (stands plan.lines i f.is) f.salt_is in
+      image_passes h i.disk i.part f.bytes holds t heard calm fault.why f.fails
+  fault_passes fault (inr f) = line_passes f.before f.line f.after f.first f.rest f.mid fault.why f.lines_are f.cut f.booted f.fails
 
-  pub outcome_passes : (result : Result Machine BootFault) → BootedOutcome lines numbers entropy result t → IfErr result (λ fault. fault.why ≡ Memory)
+  pub outcome_passes : (result : Result Machine BootFault) → BootedOutcome plan entropy result t → IfErr result (λ fault. fault.why ≡ Memory)
   outcome_passes (Ok m) o = tt
   outcome_passes (Err fault) (inl none) = none.0
   outcome_passes (Err fault) (inr f) = fault_passes fault f
@@ -88,10 +99,10 @@ pub lines_call : (lines : List PlanLine) (own : List Made) → Each (reads (IsFo
 lines_call lines own each = each_so (reads (IsForLines lines)) (reads IsBootCall) own (λ call given p. (boot_call p.0.line call p.0.for, p.1)) each
 
 pub boots_pass : BootsPass
-boots_pass lines numbers entropy world old new result h did told calm fits =
+boots_pass plan entropy world old new result h did told calm fits =
     let after = subst (λ (o : Option Held). HeldAfter old.honest o did.own new.held) told did.talked.held in
-    let calls = lines_call lines did.own did.calls in
+    let calls = lines_call plan.lines did.own did.calls in
     let boot = boot_held old.honest did.own h after.0 after.2 calls in (
-      outcome_passes lines numbers entropy world h fits (trace_of (heard_of did.own) (failures_of did.own) old new) boot.1 (λ call said one last serves. not_failed old new did.own h call said did.talked told calm calls one last serves) result did.outcome,
+      outcome_passes plan entropy world h fits (trace_of (heard_of did.own) (failures_of did.own) old new) boot.1 (λ call said one last serves. not_failed old new did.own h call said did.talked told calm calls one last serves) result did.outcome,
       after.1 ∙ ap (λ (z : Held). Some z) boot.0,
     )

@@ -19,21 +19,25 @@ use Rattle.fuse_server.specs.State.{Files, file_at}
 use Rattle.fuse_server.specs.Aims.{Aim, says, makes, reads, aim_of, number_of}
 use Rattle.fuse_server.specs.Rows.{FuseRow}
 use Rattle.fuse_server.proofs.Keeping.{aim_file}
+use Rattle.guest_plan.specs.Plans.{Known}
 use Rattle.guest_plan.specs.declared.plan.PlanLine.{PlanLine}
 use Rattle.guest_plan.specs.declared.plan.PlanLine.TheVariants as line
 use Rattle.guest_plan.proofs.Whole.{plan_takes}
-use Rattle.guest_boot.specs.Booting.{Booted, Boots, nothing}
+use Rattle.guest_boot.specs.Booting.{Booted, Boots, PlanBoots, before_lines}
 use Rattle.guest_names.specs.Standing.{digest_in, files_at_boot}
 use Rattle.guest_names.specs.Promises.{IsPlannedFile}
 use Rattle.guest_names.proofs.Making.{files_opened}
-use Rattle.guest_rules.specs.Machine.{Setting, World, Moment, Turn, ItemRead, Request, message_of, read_of, unbuilt, request_of}
+use Rattle.instance_image.specs.declared.values.Part.{Part}
+use Rattle.instance_image.specs.Sealings.{Sealing}
+use Rattle.guest_rules.specs.Machine.{Instance, Setting, State, World, Moment, Turn, ItemRead, Request, message_of, read_of, get_of, put_of, unbuilt, request_of}
+use Rattle.guest_rules.specs.RecordRow.{GetRow, no_image, got, PutRow, no_image as put_no_image, refused, no_entropy, put}
 use Rattle.guest_rules.specs.ItemRow.{ItemRow, no_item, too_large, served, blamed, no_memory}
 use Rattle.guest_rules.specs.Step.{Step, Row, trace}
 use Rattle.guest_rules.specs.Faithful.{IsDefined, over_limit, whole, no_room, IsReadDefined, slice, no_memory as short_of_memory}
 use Rattle.guest_rules.proofs.Standing.{files_kept}
 use Rattle.guest_cli.specs.Booted.{setting_of}
 use Rattle.guest_laws.specs.Fitting.{Fits, FitsItem, item_line}
-use Rattle.guest_laws.specs.Sessions.{IsItemServed, IsFileServed, RunServed, HonestHostsCauseNone}
+use Rattle.guest_laws.specs.Sessions.{AsksNoRecord, StaysHeld, IsItemServed, IsFileServed, RunServed, HonestHostsCauseNone}
 use Rattle.guest_laws.proofs.Sat.{sessions_served}
 
 -- ---- defined replies have no cause
@@ -65,6 +69,9 @@ item_has_line (line.Apk d a i w ∷ lines) s new own (suc k) n it b e at =
     item_has_line lines b.2 new b.1 k n it b.5 (omega (arith, e, more)) at
 item_has_line (line.File name f digest ∷ lines) s new own k n it b e at =
     let more : length b.2.items ≡ length s.items = ap (λ (z : Booted). length z.items) b.4.new_is in
+    item_has_line lines b.2 new b.1 k n it b.5 (omega (arith, e, more)) at
+item_has_line (line.Instance d name ∷ lines) s new own k n it b e at =
+    let more : length b.2.items ≡ length s.items = ap (λ (z : Booted). length z.items) b.4.1 in
     item_has_line lines b.2 new b.1 k n it b.5 (omega (arith, e, more)) at
 item_has_line (other ∷ lines) s new own k n it b e at = absurd b.4
 
@@ -115,47 +122,68 @@ aim_none (Ok (makes a)) t answer cause f (inl row) = row.no_cause
 aim_none (Ok (makes a)) t answer cause f (inr row) = row.no_cause
 aim_none (Ok (reads file offset size)) t answer cause f row = f file offset size refl
 
+-- without an instance image, neither a get nor a put has a cause
+no_instance : (i : Instance) → Some i ≡ None → ⊥
+no_instance i e = cc
+
+get_none : (image : Option Instance) (parts : List Part) (world : World) (run : List Sealing) (t : Trace) (uuid : List ℕ) (sent : Sent) (cause : Option Cause) → image ≡ None
+    → GetRow image parts world run t uuid sent cause → cause ≡ None
+get_none image parts world run t uuid sent cause none (no_image is quiet) = refl
+get_none image parts world run t uuid sent cause none (got i result there outcome known) = absurd (no_instance i (sym there ∙ none))
+
+put_none : (image : Option Instance) (t : Trace) (uuid text : List ℕ) (old new : State) (sent : Sent) (cause : Option Cause) → image ≡ None → PutRow image t uuid text old new sent cause
+    → cause ≡ None
+put_none image t uuid text old new sent cause none (put_no_image is quiet same) = refl
+put_none image t uuid text old new sent cause none (refused i why there fits quiet same) = refl
+put_none image t uuid text old new sent cause none (no_entropy i part there fits few quiet same) = refl
+put_none image t uuid text old new sent cause none (put i part result there fits some outcome is) = absurd (no_instance i (sym there ∙ none))
+
 -- the content that a line's item has
 content_of : (h : Held) (o : Option (List ℕ)) (l : PlanLine) → FitsItem h o l → (content : List ℕ) × (o ≡ Some content)
 content_of h o (line.Blob file m) f = (f.bytes, f.content_is)
 content_of h o (line.Apk disk apk idsig how) f = (f.bytes, f.content_is)
 content_of h o other f = absurd f
 
-module _ (lines : List PlanLine) (h : Held) (world : World) (booted : Exchanges) (new : Booted) (boots : Boots nothing lines booted new)
-    (planned : (n : ℕ) (f : MeasuredFile) → file_at (files_at_boot lines new.files) n ≡ Some f → IsPlannedFile lines booted n f) (fits : Fits lines world h) where
-  turn_none : (g : Setting) (old : Moment) (turn : Turn) (mid : Moment) → g.items ≡ new.items → old.state.fuse.files ≡ files_at_boot lines new.files → (request : Request) → request_of turn.frame ≡ request
-      → Row g world (trace old turn mid) request old.state mid.state turn.sent turn.cause → IsItemServed lines world h turn → IsFileServed lines world h old turn → turn.cause ≡ None
-  turn_none g old turn mid items same unbuilt is row item file = absurd row
-  turn_none g old turn mid items same (read_of r) is row item file =
+module _ (plan : Known) (h : Held) (world : World) (booted : Exchanges) (new : Booted) (boots : PlanBoots plan.salt plan.lines booted new)
+    (planned : (n : ℕ) (f : MeasuredFile) → file_at (files_at_boot plan.lines new.files) n ≡ Some f → IsPlannedFile plan.lines booted n f) (fits : Fits plan world h)
+    (Stays : PlanLine → Type 0) (stay : (k : ℕ) (l : PlanLine) → item_line plan.lines k ≡ Some l → Stays l) where
+  turn_none : (g : Setting) (old : Moment) (turn : Turn) (mid : Moment) → g.items ≡ new.items → old.state.fuse.files ≡ files_at_boot plan.lines new.files → (request : Request) → request_of turn.frame ≡ request
+      → AsksNoRecord g request → Row g world old.sealings (trace old turn mid) request old.state mid.state turn.sent turn.cause → IsItemServed plan.lines world h Stays turn → IsFileServed plan.lines world h old turn
+      → turn.cause ≡ None
+  turn_none g old turn mid items same unbuilt is asks row item file = absurd row
+  turn_none g old turn mid items same (get_of uuid) is asks row item file = get_none g.image old.state.parts world old.sealings (trace old turn mid) uuid turn.sent turn.cause asks row.1
+  turn_none g old turn mid items same (put_of uuid text) is asks row item file = put_none g.image (trace old turn mid) uuid text old.state mid.state turn.sent turn.cause asks row
+  turn_none g old turn mid items same (read_of r) is asks row item file =
       row_none g.items world r (trace old turn mid) turn.sent turn.cause (λ it at.
-      let l = item_has_line lines nothing new booted r.item r.item it boots (omega arith) (ap (λ (xs : List Device). slice_get xs r.item) (sym items) ∙ at) in
+      let l = item_has_line plan.lines (before_lines boots.tables boots.image) new boots.rest r.item r.item it boots.others (omega arith) (ap (λ (xs : List Device). slice_get xs r.item) (sym items) ∙ at) in
       let fit = fits.items r.item l.0 l.1 in
       let c = content_of h (world.item r.item) l.0 fit in
-      defined_none r c.0 true turn.sent turn.cause (item r l.0 c.0 is l.1 fit c.1)) row.1
-  turn_none g old turn mid items same (message_of m) is row item file =
-      aim_none (aim_of old.state.fuse m) (trace old turn mid) row.1.answer turn.cause (λ f offset size aim.
+      defined_none r c.0 true turn.sent turn.cause (item r l.0 c.0 is l.1 (stay r.item l.0 l.1) fit c.1)) row.1
+  turn_none g old turn mid items same (message_of m) is asks row item file =
+      aim_none (aim_of old.state.fuse m) (trace old turn mid) row.2.answer turn.cause (λ f offset size aim.
       let there = aim_file old.state.fuse m f offset size aim in
       let p = planned there.0 f (ap (λ (fs : Files). file_at fs there.0) (sym same) ∙ there.1) in
-      let l = file_has_line lines there.0 p.digest p.planned in
+      let l = file_has_line plan.lines there.0 p.digest p.planned in
       let fit = fits.files l.k l.name there.0 p.digest l.at in
       read_none (number_of m) offset size fit.known.content true turn.sent turn.cause
-      (file m f offset size l.k l.name there.0 p.digest is aim l.at p.number_is fit)) row.1.row
+      (file m f offset size l.k l.name there.0 p.digest is aim l.at p.number_is fit)) row.2.row
 
-  run_none : (g : Setting) (turns : List Turn) (old end : Moment) → g.items ≡ new.items → old.state.fuse.files ≡ files_at_boot lines new.files → RunServed lines h g world old turns end
-      → AllByRecursion (λ t. t.cause ≡ None) turns
+  run_none : (g : Setting) (turns : List Turn) (old end : Moment) → g.items ≡ new.items → old.state.fuse.files ≡ files_at_boot plan.lines new.files → RunServed plan h Stays g world old turns end
+      → AllByRecursion (λ t. AsksNoRecord g (request_of t.frame) → t.cause ≡ None) turns
   run_none g [] old end items same run = tt
   run_none g (turn ∷ turns) old end items same run =
       let mid : Moment = run.0 in
       let step : Step g world old turn mid = run.2 in
-      let kept = files_kept g world (trace old turn mid) (request_of turn.frame) old.state mid.state turn.sent turn.cause step.row in
-      (turn_none g old turn mid items same (request_of turn.frame) refl step.row run.3 run.4, run_none g turns mid end items (kept ∙ same) run.5)
+      let kept = files_kept g world old.sealings (trace old turn mid) (request_of turn.frame) old.state mid.state turn.sent turn.cause step.row in
+      (λ asks. turn_none g old turn mid items same (request_of turn.frame) refl asks step.row run.3 run.4, run_none g turns mid end items (kept ∙ same) run.9)
 
 pub causes_none : HonestHostsCauseNone
-causes_none files plan store entropy old new ended s turns world r w fits =
+causes_none files plan store entropy old new ended s turns world r w sealed fits stay =
     let known = s.made.planned in
     let grammar = plan_takes known.text known.plan known.is in
     let opens = s.boots.opens in
-    let made : Booted = record { tables = opens.tables; items = s.items; files = s.opened } in
-    run_none known.plan.lines s.made.stock.held world (heard_of s.booted) made opens.boots
+    let o = s.opened in
+    let made : Booted = record { tables = opens.tables; items = o.items; files = o.files; image = o.image } in
+    run_none known.plan s.made.stock.held world (heard_of s.booted) made opens.boots
     (λ n f at. files_opened known.text known.plan (heard_of s.booted) made grammar opens.boots n f at) fits
-    (setting_of s.items) turns _ _ refl refl (sessions_served files plan store entropy old new ended s turns world r w)
+    (StaysHeld (setting_of known.plan o) turns) stay (setting_of known.plan o) turns _ _ refl refl (sessions_served files plan store entropy old new ended s turns world r w sealed)

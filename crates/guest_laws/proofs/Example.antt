@@ -1,6 +1,6 @@
 -- A host that a store list makes, and a plan that it fits: a content of two blocks, as a blob and as a file by its digest. Its
 -- two files at the host are the store's by `verity` lines.
-use Rattle.std.proofs.Common.{◌≡◌, ℕ, zero, suc, ◌<◌, ◌≤◌, true, List, [], ◌∷◌, length, Some, None, refl, subst, sym, arith}
+use Rattle.std.proofs.Common.{◌≡◌, ℕ, zero, suc, ◌<◌, ◌≤◌, true, List, [], ◌∷◌, length, Option, Some, None, refl, subst, sym, arith}
 use Rattle.std.specs.Prelude.{slice_get, replicate, ◌==◌, if◌then◌else◌}
 use Rattle.std.proofs.lemmas.Bool.Decides.{nat_tests}
 use Rattle.std.proofs.lemmas.List.{length-replicate}
@@ -13,6 +13,7 @@ use Rattle.mg_base.specs.declared.values.Digest.{Digest}
 use Rattle.sha2.specs.Sha256.{sha256}
 use Rattle.verity_descriptor.specs.Spelling.{descriptor_bytes}
 use Rattle.ro_file.specs.Contents.{descriptor_of}
+use Rattle.guest_plan.specs.Plans.{Known}
 use Rattle.guest_plan.specs.declared.plan.PlanLine.{PlanLine}
 use Rattle.guest_plan.specs.declared.plan.PlanLine.TheVariants as line
 use Rattle.guest_rules.specs.Machine.{World, Salted}
@@ -35,11 +36,14 @@ module _ (content : List ℕ) (len : length content ≡ 8192) where
   abbrev pub plan : List PlanLine
   plan = line.Blob 1 measure ∷ line.File (97 ∷ []) 2 digest ∷ []
 
+  abbrev pub lines : Known
+  lines = record { secret = None; salt = None; lines = plan; numbers = 2 ∷ 3 ∷ [] }
+
   abbrev pub known : Salted
   known = record { content = content; salt = [] }
 
   abbrev pub world : World
-  world = record { item = λ k. if k == 0 then Some content else None; file = λ n. if n == 2 then Some known else None }
+  world = record { item = λ k. if k == 0 then Some content else None; file = λ n. if n == 2 then Some known else None; sealed = None }
 
   tree_in : (level i : ℕ) → 0 < level → level ≤ top (block_count (length content)) → i < pages_at (block_count (length content)) level
       → (verity_file content []).tree level i ≡ page content [] level i
@@ -86,6 +90,9 @@ module _ (content : List ℕ) (len : length content ≡ 8192) where
     };
   }
 
+  no_salt : (salt : List ℕ) → ◌≡◌ {A = Option (List ℕ)} None (Some salt) → ⊥
+  no_salt salt e = cc
+
   abbrev IsHeldFile : PlanLine → Type 0
   IsHeldFile (line.File name file d) = FitsFile held (world.file file) file d
   IsHeldFile other = Unit {0}
@@ -96,8 +103,9 @@ module _ (content : List ℕ) (len : length content ≡ 8192) where
   file_held (suc (suc k)) name file d at = absurd cc
 
   -- the host of those files holds what the plan needs
-  pub blob_fits : Fits plan world held
+  pub blob_fits : Fits lines world held
   blob_fits = record {
+    instance = λ k disk part salt at is. absurd (no_salt salt is);
     items = item_held;
     files = file_held;
   }
@@ -106,5 +114,5 @@ module _ (content : List ℕ) (len : length content ≡ 8192) where
 abbrev sevens : List ℕ
 sevens = replicate 8192 7
 
-pub sevens_fit : Fits (plan sevens (length-replicate {A = ℕ} 8192 7)) (world sevens (length-replicate {A = ℕ} 8192 7)) (held sevens (length-replicate {A = ℕ} 8192 7))
+pub sevens_fit : Fits (lines sevens (length-replicate {A = ℕ} 8192 7)) (world sevens (length-replicate {A = ℕ} 8192 7)) (held sevens (length-replicate {A = ℕ} 8192 7))
 sevens_fit = blob_fits sevens (length-replicate {A = ℕ} 8192 7)

@@ -23,13 +23,13 @@ use Rattle.guest_plan.specs.declared.plan.How.{How}
 use Rattle.guest_boot.specs.Finding.{ReadsTable, HasTable, TableOn, table_on, parts_in}
 use Rattle.guest_boot.specs.Booting.{Booted, ApkBoots, measure_in}
 use Rattle.verity_path.specs.Holding.{HoldsParts}
-use Rattle.guest_laws.specs.Fitting.{HoldsApk, AreTrue}
+use Rattle.guest_laws.specs.Fitting.{HoldsTable, HoldsApk, AreTrue}
 use Rattle.guest_laws.proofs.Heard.{sectors_served, table_held}
 use Rattle.guest_laws.proofs.Heads.{head_read, tree_inside, made}
 
 -- ---- parts of exchanges
 
-in_left : (xs ys : Exchanges) (call : Call) (said : Said) → IsIn call said xs → IsIn call said (xs ++ ys)
+pub in_left : (xs ys : Exchanges) (call : Call) (said : Said) → IsIn call said xs → IsIn call said (xs ++ ys)
 in_left [] ys call said i = absurd i
 in_left (x ∷ xs) ys call said (inl e) = inl e
 in_left (x ∷ xs) ys call said (inr i) = inr (in_left xs ys call said i)
@@ -74,27 +74,28 @@ pub record IsHeldAt (h : Held) (disk : ℕ) (it : Device) (m : Measure) (content
   pub inside : tree + 4096 * tree_pages it.measure.blocks ≤ length holds.disk.bytes
   pub few : length holds.disk.bytes ≤ 512 * 1099511627776
 
-module _ (h : Held) (disk : ℕ) (apk idsig : List ℕ) (how : How) (m : Measure) (content : List ℕ) (holds : HoldsApk h disk apk idsig how m content) where
-  pub true_table : (own : Exchanges) (u : Table) → AreTrue h disk own → ReadsTable disk own u → u ≡ holds.table
-  true_table own u heard r = table_held h disk holds.on holds.there holds.sectors holds.table holds.whole holds.are_bytes holds.is_table own heard u r
+module _ (h : Held) (disk : ℕ) (on : HoldsTable h disk) where
+  pub true_table : (own : Exchanges) (u : Table) → AreTrue h disk own → ReadsTable disk own u → u ≡ on.table
+  true_table own u heard r = table_held h disk on.on on.there on.sectors on.table on.whole on.are_bytes on.is_table own heard u r
 
-  pub has_it : (o : Option Table) (own : Exchanges) (u : Table) → ((v : Table) → o ≡ Some v → v ≡ holds.table) → AreTrue h disk own → HasTable o disk own u → u ≡ holds.table
+  pub has_it : (o : Option Table) (own : Exchanges) (u : Table) → ((v : Table) → o ≡ Some v → v ≡ on.table) → AreTrue h disk own → HasTable o disk own u → u ≡ on.table
   has_it None own u known heard has = true_table own u heard has
   has_it (Some v) own u known heard has = has.1 ∙ known v refl
 
-  pub boots_held : (s new : Booted) (own : Exchanges) (b : ApkBoots s disk apk idsig how own new) → Knows disk holds.table s.tables → AreTrue h disk own → IsMeasured b.device.measure content → IsHeldAt h disk b.device m content
+module _ (h : Held) (disk : ℕ) (apk idsig : List ℕ) (how : How) (m : Measure) (content : List ℕ) (holds : HoldsApk h disk apk idsig how m content) where
+  pub boots_held : (s new : Booted) (own : Exchanges) (b : ApkBoots s disk apk idsig how own new) → Knows disk holds.on.table s.tables → AreTrue h disk own → IsMeasured b.device.measure content → IsHeldAt h disk b.device m content
   boots_held s new own b known heard measured =
       let f = b.found in
-      let table : f.table ≡ holds.table = has_it (table_on disk s.tables) b.first f.table known (true_left h disk own b.first _ b.cut heard) f.has in
-      let parts : b.parts ≡ (holds.first, holds.second) = parts_are b.parts _ (sym f.parts_are ∙ ap (λ (z : Table). parts_in z apk idsig) table ∙ holds.parts) in
+      let table : f.table ≡ holds.on.table = has_it h disk holds.on (table_on disk s.tables) b.first f.table known (true_left h disk own b.first _ b.cut heard) f.has in
+      let parts : b.parts ≡ (holds.first, holds.second) = parts_are b.parts _ (sym f.found_is ∙ ap (λ (z : Table). parts_in z apk idsig) table ∙ holds.parts) in
       let o : Opening = opening disk holds.first holds.second (measure_in how) in
       let cut : own ≡ b.first ++ (idsig_call o, Bytes b.bytes) ∷ [] = subst (λ (p : Span × Span). own ≡ b.first ++ (idsig_call (opening disk p.0 p.1 (measure_in how)), Bytes b.bytes) ∷ []) parts b.cut in
       let is : opened o b.bytes ≡ Ok b.device = subst (λ (p : Span × Span). opened (opening disk p.0 p.1 (measure_in how)) b.bytes ≡ Ok b.device) parts b.is in
       let answer = true_right h disk own b.first _ cut heard (idsig_call o) (Bytes b.bytes) (inl refl) refl in
-      let seen = sectors_served h disk holds.on holds.there holds.second.first (count_of o) b.bytes answer in
+      let seen = sectors_served h disk holds.on.on holds.on.there holds.second.first (count_of o) b.bytes answer in
       let le = seen.0 in
-      let from : List ℕ = drop (512 * holds.second.first) holds.on.bytes in
-      let room : 512 * min holds.second.sectors 136 ≤ length from = omega (arith, le, length-drop (512 * holds.second.first) holds.on.bytes) in
+      let from : List ℕ = drop (512 * holds.second.first) holds.on.on.bytes in
+      let room : 512 * min holds.second.sectors 136 ≤ length from = omega (arith, le, length-drop (512 * holds.second.first) holds.on.on.bytes) in
       let d = made o b.bytes b.device is in
       let head : d.head ≡ holds.head = head_is d.head holds.head
       (sym d.read ∙ ap (λ (x : List ℕ). head_of x (512 * holds.second.sectors)) seen.1 ∙ head_read from holds.second.sectors holds.head room holds.is_idsig) in
@@ -105,20 +106,20 @@ module _ (h : Held) (disk : ℕ) (apk idsig : List ℕ) (how : How) (m : Measure
       let some = tree_in.0 in
       let end = tree_in.1 in
       let same : 4096 * tree_pages m.blocks ≡ 4096 * tree_pages b.device.measure.blocks = ap (λ (z : Measure). 4096 * tree_pages z.blocks) (sym measure) in
-      let most = holds.is_table.most in
+      let most = holds.on.is_table.most in
       record {
         measure = measure;
         first = holds.first.first;
         tree = at;
         layout = d.layout ∙ ap (λ (z : Head). Parts disk holds.first.first (512 * holds.second.first + z.tree_at)) head;
         holds = record {
-          disk = holds.on;
-          there = holds.there;
-          sectors = omega (arith, holds.whole);
+          disk = holds.on.on;
+          there = holds.on.there;
+          sectors = omega (arith, holds.on.whole);
           whole = measured.size;
-          blocks = ap (λ (z : Measure). take (4096 * z.blocks) (drop (512 * holds.first.first) holds.on.bytes)) measure ∙ holds.content_is;
-          tree = ap (λ (n : ℕ). take n (drop at holds.on.bytes)) (sym same ∙ len) ∙ holds.tree ∙ ap (λ (z : Measure). stored_tree content z.salt) (sym measure);
+          blocks = ap (λ (z : Measure). take (4096 * z.blocks) (drop (512 * holds.first.first) holds.on.on.bytes)) measure ∙ holds.content_is;
+          tree = ap (λ (n : ℕ). take n (drop at holds.on.on.bytes)) (sym same ∙ len) ∙ holds.tree ∙ ap (λ (z : Measure). stored_tree content z.salt) (sym measure);
         };
-        inside = omega (arith, end, some, same, len, length-drop (512 * holds.second.first) holds.on.bytes);
-        few = omega (arith, most, holds.whole);
+        inside = omega (arith, end, some, same, len, length-drop (512 * holds.second.first) holds.on.on.bytes);
+        few = omega (arith, most, holds.on.whole);
       }

@@ -8,7 +8,13 @@ pub mod Served
 pub mod Asking
 pub mod Inside
 pub mod Passes
+pub mod Images
 pub mod Boots
+pub mod Staying
+pub mod Gets
+pub mod Laid
+pub mod Puts
+pub mod Kept
 pub mod Sat
 mod Example
 pub mod Causes

@@ -6,11 +6,12 @@ use Rattle.host_traits.specs.Held.{Held}
 use Rattle.host_traits.specs.Told.{Exchanges}
 use Rattle.verity_path.specs.declared.device.Device.{Device}
 use Rattle.gpt.specs.declared.values.Table.{Table}
+use Rattle.instance_image.specs.Records.{Kept}
 use Rattle.guest_plan.specs.declared.plan.How.{How}
 use Rattle.guest_plan.specs.declared.plan.PlanLine.{PlanLine}
 use Rattle.guest_plan.specs.declared.plan.PlanLine.TheVariants as line
 use Rattle.guest_boot.specs.Finding.{ReadsTable, HasTable, TableOn, table_on, with_table}
-use Rattle.guest_boot.specs.Booting.{Booted, Boots, LineBoots, ApkBoots}
+use Rattle.guest_boot.specs.Booting.{Booted, Boots, LineBoots, ApkBoots, InstanceLine, InstanceBoots}
 use Rattle.guest_laws.specs.Fitting.{AreTrue, item_line}
 use Rattle.guest_laws.proofs.Fits.{Knows, true_left, true_right}
 
@@ -49,7 +50,17 @@ module _ (h : Held) (disk : ℕ) (t : Table) (true_table : (own : Exchanges) (u 
       let k = knows_with (table_on d s.tables) s.tables d b.first f.table known (true_left h disk own b.first _ b.cut heard) f.has in
       subst (λ (z : Booted). Knows disk t z.tables) (sym b.new_is) (subst (λ (z : List TableOn). Knows disk t z) (sym f.new_is) k)
   line_knows s mid (line.File name file digest) own known heard b = subst (λ (z : Booted). Knows disk t z.tables) (sym b.new_is) known
+  line_knows s mid (line.Instance d name) own known heard b = subst (λ (z : Booted). Knows disk t z.tables) (sym b.1) known
   line_knows s mid other own known heard b = absurd b
+
+  -- the tables that were read for the instance line
+  pub instance_knows : (i : Option InstanceLine) (salt : Option (List ℕ)) (own : Exchanges) (tables : List TableOn) (image : Option Kept) → InstanceBoots i salt own tables image → AreTrue h disk own → Knows disk t tables
+  instance_knows None salt own tables image b heard = subst (λ (z : List TableOn). Knows disk t z) (sym b.1) (knows_none disk t)
+  instance_knows (Some i) None own tables image b heard = absurd b
+  instance_knows (Some i) (Some salt) own tables image b heard =
+      let f = b.2.found in
+      let k = knows_with (table_on i.disk []) [] i.disk b.2.first f.table (knows_none disk t) (true_left h disk own b.2.first b.2.rest b.2.cut heard) f.has in
+      subst (λ (z : List TableOn). Knows disk t z) (sym f.new_is) k
 
 -- ---- the items
 
@@ -69,6 +80,7 @@ line_keeps : (s mid : Booted) (l : PlanLine) (own : Exchanges) (k : ℕ) (it : D
 line_keeps s mid (line.Blob file m) own k it b e = subst (λ (z : Booted). slice_get z.items k ≡ Some it) (sym b.1) (get_left s.items _ k it e)
 line_keeps s mid (line.Apk d a i how) own k it b e = subst (λ (z : Booted). slice_get z.items k ≡ Some it) (sym b.new_is) (get_left s.items _ k it e)
 line_keeps s mid (line.File name file digest) own k it b e = subst (λ (z : Booted). slice_get z.items k ≡ Some it) (sym b.new_is) e
+line_keeps s mid (line.Instance d name) own k it b e = subst (λ (z : Booted). slice_get z.items k ≡ Some it) (sym b.1) e
 line_keeps s mid other own k it b e = absurd b
 
 pub keeps : (lines : List PlanLine) (s new : Booted) (own : Exchanges) (k : ℕ) (it : Device) → Boots s lines own new → slice_get s.items k ≡ Some it → slice_get new.items k ≡ Some it
@@ -113,4 +125,7 @@ module _ (h : Held) (disk : ℕ) (t : Table) (true_table : (own : Exchanges) (u 
   at_line (line.File name file digest ∷ lines) s new own k n b known heard is e =
       let more : length b.2.items ≡ length s.items = ap (λ (z : Booted). length z.items) b.4.new_is in
       at_line lines b.2 new b.1 k n b.5 (line_knows h disk t true_table s b.2 (line.File name file digest) b.0 known (true_left h disk own b.0 b.1 b.3 heard) b.4) (true_right h disk own b.0 b.1 b.3 heard) is (omega (arith, e, more))
+  at_line (line.Instance d name ∷ lines) s new own k n b known heard is e =
+      let more : length b.2.items ≡ length s.items = ap (λ (z : Booted). length z.items) b.4.1 in
+      at_line lines b.2 new b.1 k n b.5 (line_knows h disk t true_table s b.2 (line.Instance d name) b.0 known (true_left h disk own b.0 b.1 b.3 heard) b.4) (true_right h disk own b.0 b.1 b.3 heard) is (omega (arith, e, more))
   at_line (other ∷ lines) s new own k n b known heard is e = absurd b.4

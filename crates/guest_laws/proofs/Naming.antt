@@ -23,10 +23,11 @@ use Rattle.guest_names.specs.Standing.{file_count, names_at_boot}
 use Rattle.guest_names.specs.Promises.{StandsSound}
 use Rattle.guest_names.proofs.Making.{counted as files_counted}
 use Rattle.guest_names.proofs.Sound.{names_found, no_other, boots_sound}
-use Rattle.guest_rules.specs.Machine.{Setting, State, World, Moment, moment, Turn, Request, message_of, read_of, unbuilt, request_of}
+use Rattle.instance_image.specs.Sealings.{Sealing}
+use Rattle.guest_rules.specs.Machine.{Setting, State, World, Moment, moment, Turn, Request, message_of, read_of, get_of, put_of, unbuilt, request_of}
 use Rattle.guest_rules.specs.Step.{Row}
 use Rattle.guest_rules.specs.Run.{Run}
-use Rattle.guest_rules.proofs.Standing.{files_kept}
+use Rattle.guest_rules.proofs.Standing.{files_kept, put_keeps}
 use Rattle.guest_cli.specs.Booted.{first_state}
 use Rattle.guest_laws.specs.Naming.{NamesStay}
 
@@ -180,21 +181,23 @@ module _ (s new : Fuse) where
 
 -- ---- a run
 
-row_keeps : (g : Setting) (world : World) (t : Trace) (request : Request) (old new : State) (sent : Sent) (cause : Option Cause) → Row g world t request old new sent cause
+row_keeps : (g : Setting) (world : World) (run : List Sealing) (t : Trace) (request : Request) (old new : State) (sent : Sent) (cause : Option Cause) → Row g world run t request old new sent cause
     → KeepsNames old.fuse new.fuse
-row_keeps g world t (message_of m) old new sent cause row = next_keeps old.fuse new.fuse m row.1.answer row.1.next
-row_keeps g world t (read_of r) old new sent cause row = same_state old.fuse new.fuse (ap (λ (s : State). s.fuse) row.0)
-row_keeps g world t unbuilt old new sent cause row = absurd row
+row_keeps g world run t (message_of m) old new sent cause row = next_keeps old.fuse new.fuse m row.2.answer row.2.next
+row_keeps g world run t (read_of r) old new sent cause row = same_state old.fuse new.fuse (ap (λ (s : State). s.fuse) row.0)
+row_keeps g world run t (get_of uuid) old new sent cause row = same_state old.fuse new.fuse (ap (λ (s : State). s.fuse) row.0)
+row_keeps g world run t (put_of uuid text) old new sent cause row = same_state old.fuse new.fuse (put_keeps g.image t uuid text old new sent cause row)
+row_keeps g world run t unbuilt old new sent cause row = absurd row
 
 module _ (g : Setting) (world : World) where
   run_keeps : (old : Moment) (turns : List Turn) (new : Moment) → Run g world old turns new → KeepsNames old.state.fuse new.state.fuse
   run_keeps old [] new r = same_state old.state.fuse new.state.fuse (ap (λ (m : Moment). m.state.fuse) (sym r))
   run_keeps old (t ∷ turns) new r =
-      keeps_on _ _ _ (row_keeps g world _ (request_of t.frame) old.state r.0.state t.sent t.cause r.2.row) (run_keeps r.0 turns new r.3)
+      keeps_on _ _ _ (row_keeps g world old.sealings _ (request_of t.frame) old.state r.0.state t.sent t.cause r.2.row) (run_keeps r.0 turns new r.3)
 
   run_files : (old : Moment) (turns : List Turn) (new : Moment) → Run g world old turns new → new.state.fuse.files ≡ old.state.fuse.files
   run_files old [] new r = ap (λ (m : Moment). m.state.fuse.files) (sym r)
-  run_files old (t ∷ turns) new r = run_files r.0 turns new r.3 ∙ files_kept g world _ (request_of t.frame) old.state r.0.state t.sent t.cause r.2.row
+  run_files old (t ∷ turns) new r = run_files r.0 turns new r.3 ∙ files_kept g world old.sealings _ (request_of t.frame) old.state r.0.state t.sent t.cause r.2.row
 
 -- ---- what is found
 
@@ -228,7 +231,7 @@ module _ (s new : Fuse) (root : IsRoot (node_at s.names)) (keeps : KeepsNames s 
       ap kind_of y.1 ∙ ap (λ (k : Kind). Some k) y.2.kind ∙ sym (ap kind_of child.there)
 
 pub names_stay : NamesStay
-names_stay text plan own booted entropy g world told heard turns new spelled boots run = record {
+names_stay text plan own o entropy g world told heard sealings turns new spelled boot run = record {
   names = λ before name file digest is.
       let at_first = names_found text plan spelled before name file digest is in
       let child = finds_children names 1 (file_count before + 2) name sound.sound at_first.0 in
@@ -237,7 +240,7 @@ names_stay text plan own booted entropy g world told heard turns new spelled boo
   files = run_files g world start turns new run;
 } where
   start : Moment
-  start = moment (first_state plan.lines booted.files entropy) told heard
+  start = moment (first_state plan o entropy) told heard sealings
 
   first : Fuse
   first = start.state.fuse
@@ -249,7 +252,7 @@ names_stay text plan own booted entropy g world told heard turns new spelled boo
   names = names_at_boot plan.lines
 
   sound : StandsSound first
-  sound = boots_sound text plan booted.files spelled (files_counted plan.lines own booted boots)
+  sound = boots_sound text plan o.files spelled (files_counted plan.salt plan.lines own _ boot.boots)
 
   keeps : KeepsNames first now
   keeps = run_keeps g world start turns new run

@@ -34,7 +34,7 @@ use Rattle.ro_file.specs.Contents.{descriptor_of}
 use Rattle.ro_file.proofs.Standing.{length-descriptor, open_whole}
 use Rattle.guest_plan.specs.declared.plan.How.{How}
 use Rattle.guest_boot.specs.declared.faults.BootCause.{BootCause}
-use Rattle.guest_boot.specs.declared.faults.BootCause.TheVariants.{Gpt, NoPart, Apk, File as FileCause, Failed, Short, Memory}
+use Rattle.guest_boot.specs.declared.faults.BootCause.TheVariants.{Gpt, NoPart, Apk, File as FileCause, Image, Failed, Short, Memory}
 use Rattle.guest_boot.specs.Finding.{table_on, parts_in}
 use Rattle.guest_boot.specs.Booting.{Booted, measure_in, later_of, ApkIsRefused, ApkFails, FileFails}
 use Rattle.guest_rules.proofs.Holding.{pair_is}
@@ -66,47 +66,47 @@ module _ (h : Held) (disk : ℕ) (apk idsig : List ℕ) (how : How) (m : Measure
   abbrev here : Opening
   here = opening disk holds.first holds.second (measure_in how)
 
-  second_in : holds.second.first + holds.second.sectors ≤ holds.sectors
+  second_in : holds.second.first + holds.second.sectors ≤ holds.on.sectors
   second_in =
-      let named = both_named apk idsig (part apk holds.table.entries) (part idsig holds.table.entries) holds.first holds.second holds.parts in
-      part_inside (take 20480 holds.on.bytes) (drop (512 * (holds.sectors - 40)) holds.on.bytes) holds.sectors holds.table idsig holds.second holds.is_table named.1
+      let named = both_named apk idsig (part apk holds.on.table.entries) (part idsig holds.on.table.entries) holds.first holds.second holds.parts in
+      part_inside (take 20480 holds.on.on.bytes) (drop (512 * (holds.on.sectors - 40)) holds.on.on.bytes) holds.on.sectors holds.on.table idsig holds.second holds.on.is_table named.1
 
-  idsig_in : 512 * (holds.second.first + min holds.second.sectors 136) ≤ length holds.on.bytes
-  idsig_in = omega (arith, second_in, holds.whole)
+  idsig_in : 512 * (holds.second.first + min holds.second.sectors 136) ≤ length holds.on.on.bytes
+  idsig_in = omega (arith, second_in, holds.on.whole)
 
   idsig_serves : (said : Said) × (serve h (idsig_call here) [] ≡ Some (said, h))
-  idsig_serves = (_, sectors_serve h disk holds.on holds.there holds.second.first (min holds.second.sectors 136) idsig_in)
+  idsig_serves = (_, sectors_serve h disk holds.on.on holds.on.there holds.second.first (min holds.second.sectors 136) idsig_in)
 
   tree_len_is : holds.head.tree_len ≡ 4096 * tree_pages m.blocks
   tree_len_is =
-      let from : List ℕ = drop (512 * holds.second.first) holds.on.bytes in
+      let from : List ℕ = drop (512 * holds.second.first) holds.on.on.bytes in
       let inside = tree_inside from holds.second.sectors holds.head holds.is_idsig in
       let end = inside.1 in
       let at : ℕ = 512 * holds.second.first + holds.head.tree_at in
-      let whole : length (take holds.head.tree_len (drop at holds.on.bytes)) ≡ holds.head.tree_len =
-      omega (arith, end, length-take holds.head.tree_len (drop at holds.on.bytes), length-drop at holds.on.bytes, length-drop (512 * holds.second.first) holds.on.bytes) in
+      let whole : length (take holds.head.tree_len (drop at holds.on.on.bytes)) ≡ holds.head.tree_len =
+      omega (arith, end, length-take holds.head.tree_len (drop at holds.on.on.bytes), length-drop at holds.on.on.bytes, length-drop (512 * holds.second.first) holds.on.on.bytes) in
       let count : block_count (length content) ≡ m.blocks = rw measured.size (omega arith) in
       sym whole ∙ ap length holds.tree ∙ length-stored content m.salt ∙ ap (λ (n : ℕ). 4096 * tree_pages n) count
 
   -- the answer to the one call makes the device
   opens : (bytes : List ℕ) → serve h (idsig_call here) [] ≡ Some (Bytes bytes, h) → (d : Device) × (opened here bytes ≡ Ok d)
   opens bytes e =
-      let from : List ℕ = drop (512 * holds.second.first) holds.on.bytes in
-      let seen = sectors_served h disk holds.on holds.there holds.second.first (count_of here) bytes e in
+      let from : List ℕ = drop (512 * holds.second.first) holds.on.on.bytes in
+      let seen = sectors_served h disk holds.on.on holds.on.there holds.second.first (count_of here) bytes e in
       let len : length (take (512 * holds.second.sectors) from) ≡ 512 * holds.second.sectors =
-      omega (arith, second_in, holds.whole, length-take (512 * holds.second.sectors) from, length-drop (512 * holds.second.first) holds.on.bytes) in
+      omega (arith, second_in, holds.on.whole, length-take (512 * holds.second.sectors) from, length-drop (512 * holds.second.first) holds.on.on.bytes) in
       let same : take (512 * count_of here) (take (512 * holds.second.sectors) from) ≡ bytes = take-take (512 * count_of here) (512 * holds.second.sectors) from (few_sectors holds.second.sectors) ∙ sym seen.1 in (
         _,
         ap (opened here) (sym same) ∙ part_opens read_again here (take (512 * holds.second.sectors) from) holds.head m len holds.is_idsig holds.measure tree_len_is,
       )
 
-  module _ (s : Booted) (t : Trace) (heard : AreTrue h disk t.own) (known : Knows disk holds.table s.tables) (calm : CanNotFail h t) where
+  module _ (s : Booted) (t : Trace) (heard : AreTrue h disk t.own) (known : Knows disk holds.on.table s.tables) (calm : CanNotFail h t) where
     -- an answer that makes no device
     module _ (f : ApkFault) (r : ApkIsRefused s disk apk idsig how f t) where
       parts : r.parts ≡ (holds.first, holds.second)
       parts =
-          let table = has_it h disk apk idsig how m content holds (table_on disk s.tables) r.first r.found.table known (true_left h disk t.own r.first r.rest r.cut heard) r.found.has in
-          parts_same r.parts (holds.first, holds.second) (sym r.found.parts_are ∙ ap (λ (z : Table). parts_in z apk idsig) table ∙ holds.parts)
+          let table = has_it h disk holds.on (table_on disk s.tables) r.first r.found.table known (true_left h disk t.own r.first r.rest r.cut heard) r.found.has in
+          parts_same r.parts (holds.first, holds.second) (sym r.found.found_is ∙ ap (λ (z : Table). parts_in z apk idsig) table ∙ holds.parts)
 
       not_opened : (bytes : List ℕ) → r.rest ≡ (idsig_call (opening disk r.parts.0 r.parts.1 (measure_in how)), Bytes bytes) ∷ []
           → Err f ≡ opened (opening disk r.parts.0 r.parts.1 (measure_in how)) bytes → ⊥
@@ -136,9 +136,9 @@ module _ (h : Held) (disk : ℕ) (apk idsig : List ℕ) (how : How) (m : Measure
 
     pub apk_passes : (why : BootCause) → ApkFails s disk apk idsig how why t → why ≡ Memory
     apk_passes Memory e = refl
-    apk_passes (Gpt f) e = absurd (not_refused h disk holds.on holds.there holds.sectors holds.table holds.whole holds.are_bytes holds.is_table t.own heard f e.1.1)
+    apk_passes (Gpt f) e = absurd (not_refused h disk holds.on.on holds.on.there holds.on.sectors holds.on.table holds.on.whole holds.on.are_bytes holds.on.is_table t.own heard f e.1.1)
     apk_passes (NoPart name) (none, e) =
-        let table = has_it h disk apk idsig how m content holds (table_on disk s.tables) t.own e.table known heard e.has in
+        let table = has_it h disk holds.on (table_on disk s.tables) t.own e.table known heard e.has in
         absurd (not_parts (holds.first, holds.second) (string_bytes name) (sym holds.parts ∙ ap (λ (z : Table). parts_in z apk idsig) (sym table) ∙ e.lacks))
     apk_passes (Apk (apks.Failed faults)) e = absurd (refused (apks.Failed faults) (λ x. cc) e)
     apk_passes (Apk (apks.Short asked got)) e = absurd (refused (apks.Short asked got) (λ x. cc) e)
@@ -150,11 +150,12 @@ module _ (h : Held) (disk : ℕ) (apk idsig : List ℕ) (how : How) (m : Measure
     apk_passes (Apk (apks.SpanShort blocks sectors)) e = absurd (refused (apks.SpanShort blocks sectors) (λ x. cc) e)
     apk_passes (Apk apks.Memory) e = absurd e
     apk_passes (FileCause f) e = absurd e.1
+    apk_passes (Image f) e = absurd e.1
     apk_passes (Failed faults) e =
         let failed = e.1 in
-        let serves = next_serves h disk holds.on holds.there holds.sectors holds.table holds.whole holds.are_bytes holds.is_table t.own heard failed.call failed.for in
+        let serves = next_serves h disk holds.on.on holds.on.there holds.on.sectors holds.on.table holds.on.whole holds.on.are_bytes holds.on.is_table t.own heard failed.call failed.for in
         absurd (calm failed.call serves.0 failed.failed failed.last serves.1)
-    apk_passes (Short asked got) e = absurd (not_short h disk holds.on holds.there holds.sectors holds.table holds.whole holds.are_bytes holds.is_table t.own heard asked got e.1.1)
+    apk_passes (Short asked got) e = absurd (not_short h disk holds.on.on holds.on.there holds.on.sectors holds.on.table holds.on.whole holds.on.are_bytes holds.on.is_table t.own heard asked got e.1.1)
 
 -- ---- a read-only file
 
@@ -209,5 +210,6 @@ module _ (h : Held) (number : ℕ) (digest : Digest) (content salt : List ℕ) (
     file_passes (Gpt f) e = absurd e
     file_passes (NoPart name) e = absurd e
     file_passes (Apk f) e = absurd e
+    file_passes (Image f) e = absurd e
     file_passes (Failed faults) e = absurd e
     file_passes (Short asked got) e = absurd e

@@ -1,48 +1,59 @@
 -- A session over an honest host that holds what the plan's lines need.
-use Rattle.std.proofs.Common.{◌≡◌, ◌+◌, ◌∙◌, ℕ, zero, suc, Bool, true, List, [], ◌∷◌, ◌++◌, length, ◌<◌, ◌≤◌, Some, Result, Ok, Err, refl, ap, sym, subst, inr, arith}
+use Rattle.std.proofs.Common.{◌≡◌, ◌+◌, ◌*◌, ◌∙◌, ℕ, zero, suc, Bool, true, List, [], ◌∷◌, ◌++◌, length, ◌<◌, ◌≤◌, Option, Some, None, refl, ap, sym, subst, inl, inr, arith}
 use Rattle.std.specs.Prelude.{slice_get}
-use Rattle.mg_base.specs.declared.errno.Errno.{Errno}
 use Rattle.mg_base.specs.declared.values.Digest.{Digest}
 use Rattle.std.proofs.lemmas.List.{length-append}
 use Rattle.host_traits.specs.declared.calls.Call.{Call}
 use Rattle.host_traits.specs.declared.calls.TapeItem.{TapeItem}
 use Rattle.host_traits.specs.Held.{Held}
-use Rattle.host_traits.specs.Told.{Told, Exchanges, Made, HeldAfter, heard_of, failures_of}
-use Rattle.host_traits.specs.Did.{reads as reading, trace_of}
-use Rattle.host_traits.proofs.Doing.{each_so}
+use Rattle.host_traits.specs.Told.{Told, Exchanges, Made, heard_of, failures_of}
+use Rattle.host_traits.specs.Did.{IsIn, trace_of}
 use Rattle.sha_tree.specs.declared.measure.Measure.{Measure}
-use Rattle.sha_tree.specs.Tree.{ancestor, page, pages_at, top}
+use Rattle.sha_tree.specs.Tree.{page, pages_at, top}
 use Rattle.sha_tree.specs.Measured.{IsMeasured}
+use Rattle.verity_path.specs.Holding.{HoldsAt}
 use Rattle.verity_path.specs.declared.device.Device.{Device}
-use Rattle.ro_file.specs.Files.{MeasuredFile, layout_of}
+use Rattle.verity_path.specs.declared.walk.Layout.{Layout}
+use Rattle.ro_file.specs.Files.{MeasuredFile}
 use Rattle.ro_file.specs.Contents.{IsContentOf}
-use Rattle.fuse_server.specs.Aims.{Aim, says, makes, reads, aim_of, number_of}
-use Rattle.fuse_server.specs.Rows.{IsForFuse}
+use Rattle.fuse_server.specs.Aims.{number_of}
 use Rattle.fuse_server.proofs.Keeping.{aim_file}
+use Rattle.guest_plan.specs.Plans.{Known}
 use Rattle.guest_plan.specs.declared.plan.PlanLine.{PlanLine}
 use Rattle.guest_plan.specs.declared.plan.PlanLine.TheVariants as line
-use Rattle.guest_boot.specs.Booting.{AreServed, Booted, Boots, LineBoots, device_on, nothing}
+use Rattle.guest_boot.specs.Booting.{AreServed, Booted, Boots, PlanBoots, LineBoots, InstanceLine, InstanceBoots, instance_in, device_on, before_lines}
+use Rattle.guest_boot.proofs.Instances.{stands}
+use Rattle.guest_boot.proofs.Plans.{stays as images_stay}
+use Rattle.instance_image.specs.Records.{Kept, IsLaid}
+use Rattle.instance_image.specs.Opening.{opening, IsOpened}
+use Rattle.mg_base.specs.declared.values.Span.{Span}
 use Rattle.guest_boot.proofs.Makes.{device_is_item}
-use Rattle.guest_rules.specs.Machine.{Setting, State, World, Salted, Moment, Turn, Request, IsItem, request_of, message_of, read_of, unbuilt, moment}
-use Rattle.guest_rules.specs.Step.{Step, IsFor, trace}
-use Rattle.guest_rules.specs.Run.{Run, IsWorld, AreOpened, calls_of}
+use Rattle.guest_rules.specs.Machine.{Instance, Setting, State, World, Salted, Moment, Turn, IsItem, request_of, moment}
+use Rattle.guest_rules.specs.Step.{Step, trace}
+use Rattle.guest_rules.specs.Run.{Run, IsWorld, AreSealed, AreOpened, calls_of}
 use Rattle.guest_rules.specs.Faithful.{HoldsDevice, HoldsContent, IsDefined, IsReadDefined}
-use Rattle.guest_rules.proofs.Holding.{IsReading, reads_keep}
-use Rattle.guest_rules.proofs.Devices.{page_reads}
 use Rattle.guest_rules.proofs.Serving.{all_served, files_served}
 use Rattle.guest_rules.proofs.Standing.{run_heard, world_first, world_at, known_by, files_kept, opened_at}
 use Rattle.guest_plan.proofs.Whole.{plan_takes}
-use Rattle.guest_cli.specs.Booted.{BootsOver, setting_of, first_state}
+use Rattle.guest_cli.specs.Works.{instance_of, parts_of}
+use Rattle.guest_cli.specs.Booted.{Opened, Opens, records_of, BootsOver, setting_of, first_state}
 use Rattle.guest_cli.specs.Serve.{before, Recorded}
 use Rattle.guest_cli.proofs.Opening.{opened_first}
 use Rattle.guest_boot.proofs.Plans.{plan_served}
-use Rattle.guest_laws.specs.Fitting.{FitsItem, HoldsReadOnly, item_line}
-use Rattle.guest_laws.specs.Sessions.{RunServed, SessionsAreServed, BootsAreServed}
+use Rattle.guest_laws.specs.Fitting.{FitsInstance, FitsItem, HoldsReadOnly, item_line}
+use Rattle.guest_laws.specs.Sessions.{AreUnwritten, LiesApart, StaysHeld, RunServed, SessionsAreServed, BootsAreServed}
 use Rattle.guest_laws.proofs.Asking.{AreHeld, boot_held, not_failed}
 use Rattle.guest_laws.proofs.Boots.{lines_call, fault_passes}
+use Rattle.guest_laws.proofs.Fits.{in_left}
 use Rattle.guest_laws.proofs.Items.{served_line}
 use Rattle.guest_laws.proofs.Lines.{same_line, get_last, keeps}
+use Rattle.guest_laws.proofs.Gets.{get_served}
+use Rattle.guest_laws.proofs.Kept.{record_kept}
+use Rattle.guest_laws.proofs.Puts.{put_kept, put_served}
+use Rattle.guest_laws.proofs.Laid.{IsImageLaid, row_laid, opened_laid, span_ends}
+use Rattle.guest_laws.proofs.Images.{span_is}
 use Rattle.guest_laws.proofs.Served.{apk_kept}
+use Rattle.guest_laws.proofs.Staying.{IsSameBut, same_self, same_on, step_keeps, step_same, file_stays, parts_stay}
 
 -- ---- a line's item is held
 
@@ -64,60 +75,52 @@ blob_line file m (line.Apk d a i w ∷ lines) s new own (suc k) n b is e =
 blob_line file m (line.File name f digest ∷ lines) s new own k n b is e =
     let more : length b.2.items ≡ length s.items = ap (λ (z : Booted). length z.items) b.4.new_is in
     blob_line file m lines b.2 new b.1 k n b.5 is (omega (arith, e, more))
+blob_line file m (line.Instance d name ∷ lines) s new own k n b is e =
+    let more : length b.2.items ≡ length s.items = ap (λ (z : Booted). length z.items) b.4.1 in
+    blob_line file m lines b.2 new b.1 k n b.5 is (omega (arith, e, more))
 blob_line file m (other ∷ lines) s new own k n b is e = absurd b.4
 
--- an item, its content, and what is held at its places
-record IsKept (h : Held) (world : World) (items : List Device) (k : ℕ) : Type 0 where
+-- the item of a line, its content, and what is held at its places, at first and where only the instance image's disk was changed
+record IsKept (image : Option Instance) (h : Held) (world : World) (items : List Device) (l : PlanLine) (k : ℕ) : Type 0 where
   it : Device
   at : slice_get items k ≡ Some it
   item : IsItem it
   content : List ℕ
   content_is : world.item k ≡ Some content
   holds : HoldsDevice h it content
+  stays : (now : Held) → IsSameBut image h now → LiesApart image l → HoldsDevice now it content
 
-module _ (lines : List PlanLine) (h : Held) (world : World) (booted : Exchanges) (served : AreServed lines) (new : Booted) (boots : Boots nothing lines booted new) (true_to : AreHeld h booted)
+module _ (image : Option Instance) (salt : Option (List ℕ)) (lines : List PlanLine) (h : Held) (world : World) (booted : Exchanges) (served : AreServed lines) (new : Booted) (boots : PlanBoots salt lines booted new) (true_to : AreHeld h booted)
     (measured : (k : ℕ) (it : Device) (content : List ℕ) → slice_get new.items k ≡ Some it → world.item k ≡ Some content → IsMeasured it.measure content) where
-  line_kept : (l : PlanLine) (k : ℕ) → item_line lines k ≡ Some l → FitsItem h (world.item k) l → IsKept h world new.items k
+  line_kept : (l : PlanLine) (k : ℕ) → item_line lines k ≡ Some l → FitsItem h (world.item k) l → IsKept image h world new.items l k
   line_kept (line.Blob file m) k at f =
       let said = served_line lines k (line.Blob file m) served at in
       let i = device_is_item file m said.1 in
       record {
         it = device_on file m;
-        at = blob_line file m lines nothing new booted k k boots at (omega arith);
+        at = blob_line file m lines (before_lines boots.tables boots.image) new boots.rest k k boots.others at (omega arith);
         item = record { least = i.least; most = i.most; suits = i.suits };
         content = f.bytes;
         content_is = f.content_is;
         holds = f.holds;
+        stays = λ now same apart. file_stays image h now same file (4096 * m.blocks) m f.bytes f.holds;
       }
   line_kept (line.Apk disk apk idsig how) k at f =
-      let a = apk_kept lines booted new world h k f.bytes disk apk idsig how f.measure boots served at f.content_is measured f.holds (λ call said i of. true_to call said i) in
-      record { it = a.it; at = a.at; item = a.item; content = f.bytes; content_is = f.content_is; holds = a.holds }
+      let a = apk_kept salt lines booted new world h k f.bytes disk apk idsig how f.measure boots served at f.content_is measured f.holds (λ call said i of. true_to call said i) in
+      let held = a.held in
+      record {
+        it = a.it;
+        at = a.at;
+        item = a.item;
+        content = f.bytes;
+        content_is = f.content_is;
+        holds = a.holds;
+        stays = λ now same apart.
+            subst (λ (y : Layout). HoldsAt now y a.it.measure f.bytes) (sym held.layout) (parts_stay image h now same disk held.first held.tree a.it.measure f.bytes apart held.holds);
+      }
   line_kept other k at f = absurd f
 
 -- ---- a run over what is held
-
-is_read : (g : Setting) (s : State) (request : Request) (call : Call) (given : List ℕ) → IsFor g s request call given → reading IsReading call given
-is_read g s (message_of m) call given f = message_read (aim_of s.fuse m) f where
-  message_read : (aim : Result Aim Errno) → reading (IsForFuse aim) call given → reading IsReading call given
-  message_read (Err e) f = absurd f.0
-  message_read (Ok (says a)) f = absurd f.0
-  message_read (Ok (makes a)) f = absurd f.0
-  message_read (Ok (reads file offset size)) f =
-      let p = f.0.path in
-      (subst IsReading (sym p.call_is) (page_reads (layout_of file) file.measure.blocks p.level (ancestor f.0.block p.level)), f.1)
-is_read g s (read_of r) call given f =
-    let it = f.0 in
-    let p = f.2.0.path in
-    (subst IsReading (sym p.call_is) (page_reads it.layout it.measure.blocks p.level (ancestor f.2.0.block p.level)), f.2.1)
-is_read g s unbuilt call given f = absurd f
-
--- a turn changes nothing that is held
-step_keeps : (g : Setting) (world : World) (old : Moment) (turn : Turn) (new : Moment) (h : Held) → Step g world old turn new → old.told.held ≡ Some h → new.told.held ≡ Some h
-step_keeps g world old turn new h step told =
-    let after = subst (λ o. HeldAfter old.told.honest o turn.own new.told.held) told step.talked.held in
-    let keeps = reads_keep old.told.honest turn.own h after.0 after.2
-    (each_so (IsFor g old.state (request_of turn.frame)) (reading IsReading) turn.own (is_read g old.state (request_of turn.frame)) step.calls) in
-    after.1 ∙ ap (λ (z : Held). Some z) keeps.0
 
 some_is : (a b : List ℕ) → Some a ≡ Some b → a ≡ b
 some_is a b e = cc
@@ -136,62 +139,135 @@ content_held h f digest c is r =
           ∙ ap (λ (s : List ℕ). page c.content s level i) (sym is.salt_is);
     }
 
-module _ (g : Setting) (world : World) (lines : List PlanLine) (h : Held) (kept : (k : ℕ) (l : PlanLine) → item_line lines k ≡ Some l → FitsItem h (world.item k) l → IsKept h world g.items k) where
-  run_served : (turns : List Turn) (old new : Moment) → Run g world old turns new → old.told.held ≡ Some h → old.told.honest ≡ true → AreOpened old.state old.heard → IsWorld g old.state world new.heard
-      → old.told.scarce ≡ true → RunServed lines h g world old turns new
-  run_served [] old new run told honest opened w scarce = run
-  run_served (turn ∷ turns) old new run told honest opened w scarce =
+some_held : (a b : Held) → Some a ≡ Some b → a ≡ b
+some_held a b e = cc
+
+module _ (g : Setting) (world : World) (plan : Known) (h : Held) (all : List Turn)
+    (kept : (k : ℕ) (l : PlanLine) → item_line plan.lines k ≡ Some l → FitsItem h (world.item k) l → IsKept g.image h world g.items l k) where
+  -- what is held before these turns, the last ones of all
+  record IsNow (now : Held) (turns : List Turn) : Type 0 where
+    same : IsSameBut g.image h now
+    quiet : AreUnwritten g all → (now ≡ h) × AreUnwritten g turns
+
+  holds_now : (now : Held) (turns : List Turn) (l : PlanLine) (k : ℕ) (d : IsKept g.image h world g.items l k) → IsNow now turns → StaysHeld g all l → HoldsDevice now d.it d.content
+  holds_now now turns l k d at (inl apart) = d.stays now at.same apart
+  holds_now now turns l k d at (inr unwritten) = subst (λ (z : Held). HoldsDevice z d.it d.content) (sym (at.quiet unwritten).0) d.holds
+
+  now_next : (old : Moment) (turn : Turn) (turns : List Turn) (mid : Moment) (now : Held) → Step g world old turn mid → old.told.held ≡ Some now → IsNow now (turn ∷ turns)
+      → (next : Held) × (mid.told.held ≡ Some next) × IsNow next turns
+  now_next old turn turns mid now step told at =
+      let next = step_same g world old turn mid now step told in (
+        next.0,
+        next.1,
+        record {
+          same = same_on g.image h now next.0 at.same next.2;
+          quiet = λ unwritten.
+              let q = at.quiet unwritten in
+              (some_held next.0 now (sym next.1 ∙ step_keeps g world old turn mid now q.1.0 step told) ∙ q.0, q.1.1);
+        },
+      )
+
+  run_served : (turns : List Turn) (old new : Moment) (now : Held) → Run g world old turns new → old.told.held ≡ Some now → IsNow now turns
+      → (FitsInstance plan h → IsImageLaid g.image old.state.parts) → old.told.honest ≡ true → AreOpened old.state old.heard
+      → IsWorld g old.state world new.heard → old.told.scarce ≡ true → RunServed plan h (StaysHeld g all) g world old turns new
+  run_served [] old new now run told at laid honest opened w scarce = run
+  run_served (turn ∷ turns) old new now run told at laid honest opened w scarce =
       let mid : Moment = run.0 in
       let step : Step g world old turn mid = run.2 in
       let later = run_heard g world mid turns new run.3 in
       let here : IsWorld g old.state world mid.heard = world_first g old.state world mid.heard later.0 (subst (λ (x : Exchanges). IsWorld g old.state world x) later.1 w) in
       let wants : mid.told.scarce ≡ true = step.talked.scarce ∙ scarce in
-      let same = files_kept g world (trace old turn mid) (request_of turn.frame) old.state mid.state turn.sent turn.cause step.row in (
+      let same = files_kept g world old.sealings (trace old turn mid) (request_of turn.frame) old.state mid.state turn.sent turn.cause step.row in
+      let next = now_next old turn turns mid now step told at in (
         mid,
         run.1,
         step,
-        λ r l content request at fits is.
-            let d = kept r.item l at fits in
-            let served = (all_served g world old turn mid h r d.it d.content step request d.at d.item d.content_is here told d.holds (inr honest)).0 in
-            let same : d.content ≡ content = some_is d.content content (sym d.content_is ∙ is) in
-            subst (λ (z : List ℕ). IsDefined r z true turn.sent turn.cause) same (subst (λ (b : Bool). IsDefined r d.content b turn.sent turn.cause) wants served),
-        λ m f offset size k name file digest request aim at same_file fits.
+        λ r l content request at_line stays fits is.
+            let d = kept r.item l at_line fits in
+            let holds = holds_now now (turn ∷ turns) l r.item d at stays in
+            let served = (all_served g world old turn mid now r d.it d.content step request d.at d.item d.content_is here told holds (inr honest)).0 in
+            let one : d.content ≡ content = some_is d.content content (sym d.content_is ∙ is) in
+            subst (λ (z : List ℕ). IsDefined r z true turn.sent turn.cause) one (subst (λ (b : Bool). IsDefined r d.content b turn.sent turn.cause) wants served),
+        λ m f offset size k name file digest request aim at_line same_file fits.
             let c : Salted = fits.known in
             let is : world.file f.file ≡ Some c = ap world.file same_file ∙ fits.content_is in
             let holds : HoldsReadOnly h f.file digest c.content c.salt = subst (λ (n : ℕ). HoldsReadOnly h n digest c.content c.salt) (sym same_file) fits.holds in
             let there = aim_file old.state.fuse m f offset size aim in
             let known = known_by g old.state world old.heard mid.heard (heard_of turn.own) step.heard opened here in
-            let served = (files_served g world old turn mid h m there.0 f offset size c step request aim there.1 is opened here told
-            (content_held h f digest c (known.files there.0 f c there.1 is) holds) (inr honest)).0 in
+            let held = file_stays g.image h now at.same f.file f.size f.measure c.content (content_held h f digest c (known.files there.0 f c there.1 is) holds) in
+            let served = (files_served g world old turn mid now m there.0 f offset size c step request aim there.1 is opened here told held (inr honest)).0 in
             subst (λ (b : Bool). IsReadDefined (number_of m) offset size c.content b turn.sent turn.cause) wants served,
-        run_served turns mid new run.3 (step_keeps g world old turn mid h step told) (step.talked.honest ∙ honest)
+        get_served g world old turn mid step honest,
+        put_served (FitsInstance plan h) g world old turn mid step honest laid,
+        put_kept g world old turn mid step,
+        record_kept (FitsInstance plan h) g world old turn mid step laid,
+        run_served turns mid new next.0 run.3 next.1 next.2
+            (λ imaged. row_laid g world old.sealings (trace old turn mid) (request_of turn.frame) old.state mid.state turn.sent turn.cause step.row (laid imaged)) (step.talked.honest ∙ honest)
             (opened_at old.state mid.state old.heard mid.heard (heard_of turn.own) same step.heard opened) (world_at g old.state mid.state world new.heard same w) wants,
       )
 
-module _ (lines : List PlanLine) (h : Held) (mid : Told) (booted : List Made) (items : List Device) (opened : List MeasuredFile) (entropy : List ℕ) (calls : List Call) (records : List TapeItem) (finish : Told) (turns : List Turn) (world : World) where
-  abbrev first : State
-  first = first_state lines opened entropy
+-- ---- the image after boot
 
-  turns_served : AreServed lines → BootsOver lines (before h) mid booted items opened → AreOpened first (heard_of booted) → (r : Recorded (setting_of items) first booted mid calls records finish turns)
-      → IsWorld (setting_of items) first world (heard_of booted ++ heard_of (calls_of turns))
-      → RunServed lines h (setting_of items) world (moment first mid (heard_of booted)) turns (moment r.state finish (heard_of booted ++ heard_of (calls_of turns)))
-  turns_served served over there r w =
+image_is : (a b : Kept) → Some a ≡ Some b → a ≡ b
+image_is a b e = cc
+
+with_secret : (image : Option Kept) (secret : Option (List ℕ)) → ((k : Kept) → image ≡ Some k → IsLaid k) → IsImageLaid (instance_of (records_of image secret)) (parts_of (records_of image secret))
+with_secret None secret laid = tt
+with_secret (Some k) None laid = tt
+with_secret (Some k) (Some secret) laid = laid k refl
+
+no_kept : (k : Kept) → None ≡ Some k → ⊥
+no_kept k e = cc
+
+made_laid : (plan : Known) (h : Held) (own : Exchanges) (i : Option InstanceLine) (tables : _) (image : Option Kept) → instance_in plan.lines ≡ i → AreHeld h own → FitsInstance plan h
+    → (salt : Option (List ℕ)) → plan.salt ≡ salt → InstanceBoots i salt own tables image → (k : Kept) → image ≡ Some k → IsLaid k
+made_laid plan h own None tables image is heard imaged salt salted b k e = absurd (no_kept k (sym b.2 ∙ e))
+made_laid plan h own (Some i) tables image is heard imaged None salted b k e = absurd b
+made_laid plan h own (Some i) tables image is heard imaged (Some salt) salted b k e =
+    let holds = imaged i.at i.disk i.part salt (stands plan.lines i is) salted in
+    let span = span_is h i.disk i.part salt holds own heard b.2.first b.2.rest b.2.cut tables b.2.span b.2.found in
+    let opened : IsOpened (opening i.disk holds.span salt) b.2.rest b.0 = subst (λ (s : Span). IsOpened (opening i.disk s salt) b.2.rest b.0) span b.2.opened in
+    let same : b.0 ≡ k = image_is b.0 k (sym b.1 ∙ e) in
+    subst IsLaid same (opened_laid (opening i.disk holds.span salt) (span_ends h i.disk i.part salt holds) b.2.rest b.0 opened)
+
+first_laid : (plan : Known) (h : Held) (own : Exchanges) (o : Opened) → Opens plan own o → AreHeld h own → FitsInstance plan h
+    → IsImageLaid (setting_of plan o).image (parts_of (records_of o.image plan.secret))
+first_laid plan h own o opens heard imaged =
+    let b = opens.boots in
+    let same : o.image ≡ b.image = images_stay (before_lines b.tables b.image) plan.lines b.rest _ b.others in
+    let front : AreHeld h b.first = λ call said i. heard call said (subst (IsIn call said) (sym b.cut) (in_left b.first b.rest call said i)) in
+    with_secret o.image plan.secret (λ k e. made_laid plan h b.first (instance_in plan.lines) b.tables b.image refl front imaged plan.salt refl b.before k (sym same ∙ e))
+
+module _ (plan : Known) (h : Held) (mid : Told) (booted : List Made) (o : Opened) (entropy : List ℕ) (calls : List Call) (records : List TapeItem) (finish : Told) (turns : List Turn) (world : World) where
+  abbrev g : Setting
+  g = setting_of plan o
+
+  abbrev first : State
+  first = first_state plan o entropy
+
+  turns_served : AreServed plan.lines → BootsOver plan (before h) mid booted o → AreOpened first (heard_of booted) → (r : Recorded g first booted mid calls records finish turns)
+      → IsWorld g first world (heard_of booted ++ heard_of (calls_of turns))
+      → AreSealed g world (moment first mid (heard_of booted) []) turns (moment r.state finish (heard_of booted ++ heard_of (calls_of turns)) r.sealed) r.plain
+      → RunServed plan h (StaysHeld g turns) g world (moment first mid (heard_of booted) []) turns (moment r.state finish (heard_of booted ++ heard_of (calls_of turns)) r.sealed)
+  turns_served served over there r w sealed =
       let opens = over.opens in
       let told = over.talked.held in
-      let boot = boot_held true booted h told.0 told.2 (lines_call lines booted over.calls) in
+      let boot = boot_held true booted h told.0 told.2 (lines_call plan.lines booted over.calls) in
       let mid_held : mid.held ≡ Some h = told.1 ∙ ap (λ (z : Held). Some z) boot.0 in
       let all : Exchanges = heard_of booted ++ heard_of (calls_of turns) in
-      let kept : (k : ℕ) (l : PlanLine) → item_line lines k ≡ Some l → FitsItem h (world.item k) l → IsKept h world items k = λ k l at fits.
-      line_kept lines h world (heard_of booted) served (record { tables = opens.tables; items = items; files = opened }) opens.boots boot.1 w.items l k at fits in
-      run_served (setting_of items) world lines h kept turns (moment first mid (heard_of booted)) (moment r.state finish all) (r.run world w) mid_held over.talked.honest there w over.talked.scarce
+      let made : Booted = record { tables = opens.tables; items = o.items; files = o.files; image = o.image } in
+      let kept : (k : ℕ) (l : PlanLine) → item_line plan.lines k ≡ Some l → FitsItem h (world.item k) l → IsKept g.image h world o.items l k = λ k l at fits.
+      line_kept g.image plan.salt plan.lines h world (heard_of booted) served made opens.boots boot.1 w.items l k at fits in
+      run_served g world plan h turns kept turns (moment first mid (heard_of booted) []) (moment r.state finish all r.sealed) h (r.run world w sealed) mid_held
+      (record { same = same_self g.image h; quiet = λ unwritten. (refl, unwritten) }) (λ imaged. first_laid plan h (heard_of booted) o opens boot.1 imaged) over.talked.honest there w over.talked.scarce
 
 pub sessions_served : SessionsAreServed
-sessions_served files plan store entropy old new ended s turns world r w =
+sessions_served files plan store entropy old new ended s turns world r w sealed =
     let planned = s.made.planned in
     let grammar = plan_takes planned.text planned.plan planned.is in
     let served = plan_served planned.text planned.plan grammar in
-    let there = opened_first planned.text planned.plan (heard_of s.booted) s.items s.opened s.bytes grammar s.boots.opens in
-    turns_served planned.plan.lines s.made.stock.held s.mid s.booted s.items s.opened s.bytes s.calls s.records s.finish turns world served s.boots there r w
+    let there = opened_first planned.text planned.plan (heard_of s.booted) s.opened s.bytes grammar s.boots.opens in
+    turns_served planned.plan s.made.stock.held s.mid s.booted s.opened s.bytes s.calls s.records s.finish turns world served s.boots there r w sealed
 
 -- ---- a boot that failed
 
@@ -204,4 +280,4 @@ boots_served files plan store entropy fault world u fits =
     let told = f.talked.held in
     let calls = lines_call k.lines f.own f.calls in
     let boot = boot_held true f.own h told.0 told.2 calls in
-    f.other (fault_passes k.lines k.numbers u.bytes world h fits (trace_of (heard_of f.own) (failures_of f.own) start f.finish) boot.1 (λ call said one last serves. not_failed start f.finish f.own h call said f.talked refl (inr refl) calls one last serves) fault f.is)
+    f.other (fault_passes k u.bytes world h fits (trace_of (heard_of f.own) (failures_of f.own) start f.finish) boot.1 (λ call said one last serves. not_failed start f.finish f.own h call said f.talked refl (inr refl) calls one last serves) fault f.is)

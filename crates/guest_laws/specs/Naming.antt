@@ -9,12 +9,12 @@ use Rattle.fuse_server.specs.State.{State as Fuse}
 use Rattle.guest_plan.specs.declared.plan.PlanLine.{PlanLine}
 use Rattle.guest_plan.specs.Plans.{Known}
 use Rattle.guest_plan.specs.Spelling.{IsPlan}
-use Rattle.guest_boot.specs.Booting.{Booted, Boots, nothing}
+use Rattle.instance_image.specs.Sealings.{Sealing}
 use Rattle.guest_names.specs.Standing.{file_count, files_at_boot}
 use Rattle.guest_names.specs.Promises.{IsFileLine, IsPlannedName}
 use Rattle.guest_rules.specs.Machine.{Setting, World, Moment, moment, Turn}
 use Rattle.guest_rules.specs.Run.{Run}
-use Rattle.guest_cli.specs.Booted.{first_state}
+use Rattle.guest_cli.specs.Booted.{Opened, Opens, first_state}
 
 -- In the root the first planned name is that of node 2, the next one of node 3, and so on, each a read-only file with its line's
 -- number; no other name is found; and the files are those that boot opened.
@@ -26,8 +26,8 @@ pub record IsAsPlanned (lines : List PlanLine) (opened : List MeasuredFile) (s :
 
 -- Law: they are so behind each run from the state after boot, whatever was asked and whatever the host answered.
 abbrev pub NamesStay : Type 0
-NamesStay = (text : List ℕ) (plan : Known) (own : Exchanges) (booted : Booted) (entropy : List ℕ)
-    (g : Setting) (world : World) (told : Told) (heard : Exchanges) (turns : List Turn) (new : Moment)
-    → IsPlan text plan → Boots nothing plan.lines own booted
-    → Run g world (moment (first_state plan.lines booted.files entropy) told heard) turns new
-    → IsAsPlanned plan.lines booted.files new.state.fuse
+NamesStay = (text : List ℕ) (plan : Known) (own : Exchanges) (o : Opened) (entropy : List ℕ)
+    (g : Setting) (world : World) (told : Told) (heard : Exchanges) (sealings : List Sealing) (turns : List Turn) (new : Moment)
+    → IsPlan text plan → Opens plan own o
+    → Run g world (moment (first_state plan o entropy) told heard sealings) turns new
+    → IsAsPlanned plan.lines o.files new.state.fuse

@@ -3,7 +3,7 @@ use Rattle.std.specs.Prelude.{◌≡◌, ℕ, List, Some, Result, IfErr}
 use Rattle.host_traits.specs.Did.{Did}
 use Rattle.host_traits.specs.Held.{Held}
 use Rattle.host_traits.specs.Told.{Told, Calm}
-use Rattle.guest_plan.specs.declared.plan.PlanLine.{PlanLine}
+use Rattle.guest_plan.specs.Plans.{Known}
 use Rattle.guest_boot.specs.declared.faults.BootCause.TheVariants.{Memory}
 use Rattle.guest_boot.specs.declared.faults.BootFault.{BootFault}
 use Rattle.guest_boot.specs.Booting.{IsForLines, most_of}
@@ -15,7 +15,7 @@ use Rattle.guest_laws.specs.Fitting.{Fits}
 -- Over a host that holds what each line of the plan needs, where no call of boot failed or the host is honest, boot opens all
 -- lines, or there was no memory; and what is held stays.
 abbrev pub BootsPass : Type 0
-BootsPass = (lines : List PlanLine) (numbers entropy : List ℕ) (world : World) (old new : Told) (result : Result Machine BootFault) (h : Held)
-    → Did (IsForLines lines) (most_of lines) old new (BootedOutcome lines numbers entropy result)
-    → old.held ≡ Some h → Calm old new → Fits lines world h
+BootsPass = (plan : Known) (entropy : List ℕ) (world : World) (old new : Told) (result : Result Machine BootFault) (h : Held)
+    → Did (IsForLines plan.lines) (most_of plan.lines) old new (BootedOutcome plan entropy result)
+    → old.held ≡ Some h → Calm old new → Fits plan world h
     → IfErr result (λ fault. fault.why ≡ Memory) × (new.held ≡ Some h)

@@ -24,15 +24,17 @@ pub fn boots_are_served()
     ensures { BootsAreServed }
 {}
 
-/// A session of `serve` over the host that a store list makes, in a world that meets the premises: each read of an item that the
-/// host holds as the item's line needs it has its defined reply, or want of memory, and none has a cause. Its contract is the law;
-/// it does nothing.
+/// A session of `serve` over the host that a store list makes, in a world that meets the premises: each read of an item or a file
+/// that the host holds as its line needs it has its defined reply, and each get of a record that stands its text, or want of memory,
+/// and none has a cause; of an item on the instance image's disk that is so where no record is written. A put that is answered with
+/// 0 has put its record, and it stands until the next such put into its UUID. Its contract is the law; it does nothing.
 pub fn sessions_are_served()
     ensures { SessionsAreServed }
 {}
 
-/// A session of `serve` over the host that a store list makes, where it holds what each line of the plan needs, in a world that
-/// meets the premises: no frame has a cause. Its contract is the law; it does nothing.
+/// A session of `serve` over the host that a store list makes, where it holds what each line of the plan needs, and what it holds
+/// for items stays, in a world that meets the premises: no frame that asks for no record has a cause. Its contract is the law; it
+/// does nothing.
 pub fn honest_hosts_cause_none()
     ensures { HonestHostsCauseNone }
 {}

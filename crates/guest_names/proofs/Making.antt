@@ -108,7 +108,7 @@ files_opened text plan own booted p b n f is =
     let a = adds plan.lines (before_lines b.tables b.image) booted b.rest b.others in
     let later : AreMade b.rest (files_in plan.lines) booted.files = subst (AreMade b.rest (files_in plan.lines)) (sym a.are) a.each in
     let made : AreMade own (files_in plan.lines) booted.files =
-        subst (λ (z : Exchanges). AreMade z (files_in plan.lines) booted.files) (sym b.cut) (all_right b.first b.rest (files_in plan.lines) booted.files later) in
+    subst (λ (z : Exchanges). AreMade z (files_in plan.lines) booted.files) (sym b.cut) (all_right b.first b.rest (files_in plan.lines) booted.files later) in
     elim (found own [] (files_in plan.lines) booted.files n f made (plan_plantable text plan p).different is) [
       | inl w ↦ planned plan.lines own n f w
       | inr none ↦ absurd cc
