@@ -14,16 +14,16 @@ pub returns-clause-step : goal.returns-clause-step
 returns-clause-step g c =
     let uuid : c.uuid_of-uuid.result.0 ≡ c.args.payload.now = c.uuid_of-uuid.ensures ∙ take_all 16 c.args.payload.now (omega (arith, c.requires)) in
     let did = subst (λ (u : List ℕ). Did (IsGetCall c.in-Some.records.image u) 1 (g.H.Host.told c.args.host.now) (g.H.Host.told c.get-done.new.host)
-        (GetOutcome c.in-Some.records.image c.in-Some.records.secret u c.get-done.result)) uuid c.get-done.ensures.did in
+    (GetOutcome c.in-Some.records.image c.in-Some.records.secret u c.get-done.result)) uuid c.get-done.ensures.did in
     rw (c.get_answer.ensures, ← c.engine.view_is, c.in-Some.is)
     (get_step (record { items = c.engine.inside.items.items; image = instance_of (Some c.in-Some.records) }) _ _ c.args.payload.now
-        (record { fuse = c.engine.inside.server; entropy = c.engine.inside.entropy; parts = c.in-Some.records.image.parts }) _ refl c.get-done.result c.engine.inside.served did)
+    (record { fuse = c.engine.inside.server; entropy = c.engine.inside.entropy; parts = c.in-Some.records.image.parts }) _ refl c.get-done.result c.engine.inside.served did)
 
 pub returns-clause-served : goal.returns-clause-served
 returns-clause-served g c =
     let uuid : c.uuid_of-uuid.result.0 ≡ c.args.payload.now = c.uuid_of-uuid.ensures ∙ take_all 16 c.args.payload.now (omega (arith, c.requires)) in
     let held = subst (λ (u : List ℕ). RecordIsGot c.in-Some.records.image c.in-Some.records.secret u (g.H.Host.told c.args.host.now) (g.H.Host.told c.get-done.new.host) c.get-done.result)
-        uuid c.get-done.ensures.held in
+    uuid c.get-done.ensures.held in
     rw (c.get_answer.ensures, ← c.engine.view_is, c.in-Some.is)
     (is_got (record { items = c.engine.inside.items.items; image = instance_of (Some c.in-Some.records) }) _ _ c.args.payload.now
-        (record { fuse = c.engine.inside.server; entropy = c.engine.inside.entropy; parts = c.in-Some.records.image.parts }) _ refl c.get-done.result c.engine.inside.served held)
+    (record { fuse = c.engine.inside.server; entropy = c.engine.inside.entropy; parts = c.in-Some.records.image.parts }) _ refl c.get-done.result c.engine.inside.served held)
