@@ -62,7 +62,6 @@ def faults():
     yield refused("one block", "a tree has two blocks at least", "idsig one - out", 11, "end 11 unfit toofewblocks\n")
     yield refused("half a byte of salt", "one digit", "measure file 0", 1, "end 1 usage\n")
     yield refused("no file", "a file that isn't there", "measure other -", 3, "end 3 file other\n")
-    yield refused("instance", "not served yet", "instance list out", 12, "end 12 unbuilt command 0\n")
     for name, why, text, status, words in (
             ("name twice", "the second line", "part a ro file\npart a rw file\n", 2, "list 3 twice"),
             ("mode", "neither ro nor rw", "part a wo file\n", 2, "list 2 word"),

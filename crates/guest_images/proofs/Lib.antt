@@ -8,3 +8,6 @@ pub mod Placing
 pub mod Naming
 pub mod Storing
 pub mod Fronts
+pub mod ImageLined
+pub mod ImageListed
+pub mod ImageStored

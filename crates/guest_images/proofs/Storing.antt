@@ -7,7 +7,7 @@ use Rattle.guest_files.specs.Files.{Names}
 use Rattle.guest_files.specs.Keeping.{Parcel, AreStored, MayBeStored}
 use Rattle.guest_images.specs.declared.pieces.Piece.{Piece}
 use Rattle.guest_images.specs.declared.status.Status.{Status}
-use Rattle.guest_images.specs.declared.status.Status.TheVariants.{Done, Usage, ListFault, FileFault, WriteFault, TooMuch, Memory, Unfit, Unbuilt}
+use Rattle.guest_images.specs.declared.status.Status.TheVariants.{Done, Usage, ListFault, FileFault, WriteFault, TooMuch, Memory, Unfit}
 use Rattle.guest_images.specs.Loads.{refused, StoresCause}
 use Rattle.guest_images.specs.Measuring.{FolderRun}
 use Rattle.guest_images.specs.Composing.{IsDescribed, HasTable, parcels_of, unfit_kind}
@@ -29,4 +29,3 @@ composes_by folder log list out pieces before now WriteFault read fit described 
 composes_by folder log list out pieces before now TooMuch read fit described table storing cause = absurd storing
 composes_by folder log list out pieces before now Memory read fit described table storing cause = inr (record { pieces = pieces; read = read; fit = fit; described = described; table = table; storing = storing }, refl)
 composes_by folder log list out pieces before now (Unfit kind) read fit described table storing cause = absurd storing
-composes_by folder log list out pieces before now (Unbuilt at) read fit described table storing cause = absurd storing

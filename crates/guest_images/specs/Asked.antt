@@ -12,7 +12,7 @@ abbrev pub asked_by : Request → Wish
 asked_by (Idsig file salt out) = idsig_of file.now salt out.now
 asked_by (Measure file salt) = measure_of file.now salt
 asked_by (Composite list out) = composite_of list.now out.now
-asked_by Instance = instance_of
+asked_by (Instance list out) = instance_of list.now out.now
 
 -- what became of a word that is to be a salt
 abbrev pub SaltRead : Result (List ℕ) Status → List ℕ → Type 0
@@ -31,4 +31,6 @@ WordsRead (Err other) wish = ⊥
 -- the name of a composite disk has room for the endings of its other files
 abbrev pub HasRoom : Request → Type 0
 HasRoom (Composite list out) = length out.now ≤ 250
-HasRoom other = Unit {0}
+HasRoom (Idsig file salt out) = Unit {0}
+HasRoom (Measure file salt) = Unit {0}
+HasRoom (Instance list out) = Unit {0}

@@ -7,4 +7,7 @@ pub mod Feeding
 pub mod Parts
 pub mod Composing
 pub mod Composed
+pub mod ImageLists
+pub mod ImageDrafts
+pub mod Imaging
 pub mod Made

@@ -1,8 +1,11 @@
-//! What `mkguest` makes: idsigs, measures, and composite disks, from the files of a folder.
+//! What `mkguest` makes: idsigs, measures, composite disks and instance images, from the files of a folder.
 #![tactic(auto)]
 
 pub mod composing;
 pub mod feeding;
+pub mod image_lines;
+pub mod image_lists;
+pub mod imaging;
 pub mod loading;
 pub mod making;
 pub mod measuring;

@@ -16,7 +16,7 @@ pub enum UnfitKind {
     Empty,
     /// A part that may be written, of a file that is no whole number of blocks.
     Uneven,
-    /// More than 128 parts.
+    /// More than 128 parts of a disk; more than 256 partitions of an image, or an image of more than 2^21 sectors.
     TooMany,
     /// No part.
     NoParts,
@@ -41,8 +41,6 @@ pub enum Status {
     Memory,
     /// Nothing can be made of the files.
     Unfit { kind: UnfitKind },
-    /// A form of the words that isn't served yet.
-    Unbuilt { at: u64 },
 }
 
 impl Status {
@@ -59,7 +57,6 @@ impl Status {
             Status::TooMuch => 9,
             Status::Memory => 10,
             Status::Unfit { kind: _ } => 11,
-            Status::Unbuilt { at: _ } => 12,
         }
     }
 }
@@ -94,10 +91,6 @@ fn end_words(status: &Status) -> Line
         Status::Unfit { kind } => {
             line.put(b"end 11 unfit ");
             line.put(unfit_word(*kind));
-        }
-        Status::Unbuilt { at } => {
-            line.put(b"end 12 unbuilt command ");
-            line.number(*at);
         }
         _ => {}
     }

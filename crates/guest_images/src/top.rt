@@ -6,6 +6,7 @@ ghost use Rattle.guest_images.specs.Made.{Makes, Mkguest};
 ghost use Rattle.guest_images.specs.Measuring.{folder_run, log_run};
 ghost use Rattle.guest_images.specs.Words.{wish_of};
 
+use crate::imaging::make_image;
 use crate::making::make_disk;
 use crate::measuring::{measure_file, sign_file};
 use crate::status::{Status, write_end};
@@ -31,15 +32,16 @@ fn make<F: Folder, L: Sink>(alloc: Global, words: &[String], folder: &mut F, log
         Request::Idsig { file, salt, out } => sign_file(alloc, file, *salt, out, folder),
         Request::Measure { file, salt } => measure_file(alloc, file, *salt, folder, log),
         Request::Composite { list, out } => make_disk(alloc, list, out, folder),
-        Request::Instance => Status::Unbuilt { at: 0 },
+        Request::Instance { list, out } => make_image(alloc, list, out, folder),
     }
 }
 
 /// Makes what the words ask for, from the files of the folder. `idsig FILE SALT OUT` stores the idsig of FILE under OUT.
 /// `measure FILE SALT` writes the lines `measure BLOCKS SALT ROOT` and `digest DIGEST` to the log. `composite LIST OUT` stores the
 /// composite disk of a list's parts: its description under OUT, and the two ends of its partition table under OUT.head and
-/// OUT.tail. `instance LIST OUT` isn't served yet. A status other than 0 and 6 writes one end line to the log; a fault of that
-/// makes the status 6. With a status other than 0, 3, 6 and 10 no file changed.
+/// OUT.tail. `instance LIST OUT` stores the instance image (version 1) of a list's partitions, all of them empty, under OUT. A
+/// status other than 0 and 6 writes one end line to the log; a fault of that makes the status 6. With a status other than 0, 3, 6
+/// and 10 no file changed.
 pub fn mkguest<F: Folder, L: Sink>(
     alloc: Global,
     words: &[String],

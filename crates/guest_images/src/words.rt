@@ -26,8 +26,11 @@ pub enum Request<'a> {
         list: &'a str,
         out: &'a str,
     },
-    /// A form that isn't served yet.
-    Instance,
+    /// The instance image of a list, stored under a name.
+    Instance {
+        list: &'a str,
+        out: &'a str,
+    },
 }
 
 // A word that is to be a salt.
@@ -61,7 +64,10 @@ pub fn request_of(words: &[String]) -> Result<Request<'_>, Status>
                 out: out.as_str(),
             })
         }
-        [word, _, _] if word.as_str() == "instance" => Ok(Request::Instance),
+        [word, list, out] if word.as_str() == "instance" => Ok(Request::Instance {
+            list: list.as_str(),
+            out: out.as_str(),
+        }),
         [word, file, salt, out] if word.as_str() == "idsig" => match salt_of(salt.as_str()) {
             Ok(salt) => Ok(Request::Idsig {
                 file: file.as_str(),

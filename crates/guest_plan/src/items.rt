@@ -20,8 +20,9 @@ const NUMBERS: u64 = 2_147_483_648;
 // A device has fewer blocks than this.
 const BLOCKS: u64 = 1_048_577;
 
+/// A UUID: 36 characters, hyphenated, in lower case.
 #[tactic(auto, unfolding(crate::specs::Items::uuid_of))]
-fn uuid_of(text: &[u8]) -> Result<Guid, LineFault>
+pub fn uuid_of(text: &[u8]) -> Result<Guid, LineFault>
     ensures { Gives (λ g. g) result (uuid_of text.now) }
 {
     let Ok(text) = str::from_utf8(text) else {

@@ -13,6 +13,7 @@ mod store_items;
 mod store_reading;
 mod writing;
 
+pub use crate::items::uuid_of;
 pub use crate::plan::{How, Plan, PlanLine};
 pub use crate::reading::read_plan;
 pub use crate::store::{Store, StoreLine};

@@ -1,6 +1,7 @@
 //! The program: `mkguest idsig FILE SALT OUT` stores the idsig of a file, `mkguest measure FILE SALT` prints a file's measure and
-//! digest, `mkguest composite LIST OUT` stores the composite disk of a list's parts. What it prints goes to its standard output,
-//! and it ends with the status's number. Where the system refused a call, its reason goes to standard error.
+//! digest, `mkguest composite LIST OUT` stores the composite disk of a list's parts, `mkguest instance LIST OUT` stores the
+//! instance image of a list's partitions. What it prints goes to its standard output, and it ends with the status's number. Where
+//! the system refused a call, its reason goes to standard error.
 #![tactic(auto)]
 
 use guest_images::{Status, mkguest};
