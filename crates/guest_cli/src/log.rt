@@ -1,9 +1,20 @@
 // The lines of the log.
-ghost use Rattle.std.specs.Prelude.{◌≡◌, ◌≤◌, ◌++◌, length, Some};
+ghost use Rattle.std.specs.Prelude.{◌≡◌, ◌≤◌, ◌++◌, length, codes, Some};
+ghost use Rattle.hex.specs.Hex.{encode_lower};
 ghost use Rattle.guest_rules.specs.Run.{cause_words, log_line};
 
 use text_lines::Line;
 use verity_path::Cause;
+
+// Adds the words of a tag.
+fn put_tag(line: &mut Line, found: &[u8; 16])
+    requires { length line.old ≤ 24 }
+    ensures value { line.new ≡ line.old ++ (codes " tag " ++ encode_lower found.now) }
+    ensures len { length line.new ≤ 61 }
+{
+    line.put(b" tag ");
+    line.hex(found);
+}
 
 // Adds the words of a cause.
 fn put_cause(line: &mut Line, cause: &Cause)
@@ -32,10 +43,7 @@ fn put_cause(line: &mut Line, cause: &Cause)
             line.put(b" failed ");
             line.number(*faults);
         }
-        Cause::Tag { found } => {
-            line.put(b" tag ");
-            line.hex(found);
-        }
+        Cause::Tag { found } => put_tag(line, found),
         Cause::Changed { sector } => {
             line.put(b" changed ");
             line.number(*sector);
