@@ -228,20 +228,17 @@ def boots():
 def twice():
     """Two sessions in a row, the image made by mkguest and put on a composite disk; the second reads what the first put."""
     lst = f"image 1\nsalt {SALT.hex()}\npart {A} 4\npart {B} 4\n"
-    made = image([(A, 4), (B, 4)])
-    guid = uuid.uuid5(uuid.UUID(int=0), "disk")
-    table = Table(guid, [("vm", uuid.uuid5(guid, "vm"), len(made) // SECTOR)])
-    spec = composite(len(table.head) + len(made) + len(table.tail),
-                     [("disk.head", 0, False), ("vm.img", 20480, True), ("disk.tail", 20480 + len(made), False)])
-    hello = record(A, b"hello", 4, nonce(0))
-    after = table.head + made[:SECTOR] + hello + made[SECTOR + len(hello):] + table.tail
+    made, table, hello = EMPTY.image, EMPTY.table, record(A, b"hello", 4, nonce(0))
+    spec = composite(len(EMPTY.bytes), [("disk.head", 0, False), ("vm.img", 20480, True), ("disk.tail", 20480 + len(made), False)])
+    boot = EMPTY.boot()
+    later = boot[:4] + [told(hello[:SECTOR])] + boot[5:] + [heard(hello, 33)]
     files = {"images": lst.encode(), "parts": b"parts 1\npart vm rw vm.img\n", "plan": PLAN.encode(), "entropy": ENTROPY,
              "store": b"store 1\ncomposite 0 disk\nkeep disk 0 after.bin\n", "again": b"store 1\ndisk 0 after.bin\n"}
     yield case("two sessions", "what is put in the first is got in the second", files,
                ran("instance images vm.img", stored={"vm.img": made}, program="mkguest"),
                ran("composite parts disk", stored={"disk": spec, "disk.head": table.head, "disk.tail": table.tail}, program="mkguest"),
-               ran("serve plan store entropy tape", 0, code(3, 0), "", put(A, b"hello"), {"after.bin": after}),
-               ran("serve plan again entropy tape", 0, text(b"hello") + code(2, 2), "", get(A) + get(B)))
+               ran("serve plan store entropy tape", 0, code(3, 0), "", put(A, b"hello"), {"after.bin": changed(EMPTY, A, hello), "tape": tape(*boot, DONE)}),
+               ran("serve plan again entropy tape", 0, text(b"hello") + code(2, 2), "", get(A) + get(B), {"tape": tape(*later)}))
 
 
 def cases():
