@@ -9,7 +9,9 @@ use Rattle.guid_crc.specs.Guids.{guid_of, guid_text}
 use Rattle.text_lines.specs.declared.kinds.PlanKind.{PlanKind}
 use Rattle.text_lines.specs.declared.kinds.PlanKind.TheVariants as kinds
 use Rattle.text_lines.specs.declared.kinds.PlanFault.{PlanFault}
-use Rattle.text_lines.specs.Fields.{◌>>=◌, cut, first_field, first_or, field, last_field, last_from, two_fields, three_fields, four_fields, five_fields}
+use Rattle.text_lines.specs.declared.kinds.LineFault.{LineFault}
+use Rattle.text_lines.specs.declared.kinds.LineFault.TheVariants as fault
+use Rattle.text_lines.specs.Fields.{◌>>=◌, Gives, cut, first_field, first_or, field, last_field, last_from, two_fields, three_fields, four_fields, five_fields}
 use Rattle.text_lines.specs.Values.{number_in, hex_of, page_salt, name_of, part_of, is_name, is_part}
 use Rattle.text_lines.specs.Lines.{adds, text_of}
 use Rattle.text_lines.specs.Lists.{complete_by, completed}
@@ -26,8 +28,9 @@ use Rattle.guest_plan.specs.declared.plan.PlanLine.TheVariants as planned
 use Rattle.guest_plan.specs.declared.plan.Item.{Item}
 use Rattle.guest_plan.specs.declared.plan.Item.TheVariants.{Secret, InstanceSalt, Line}
 use Rattle.guest_plan.specs.declared.plan.Plan.{Plan}
-use Rattle.guest_plan.specs.Items.{host_number, uuid_of, measure_of, secret_of, instance_salt_of, instance_of, blob_of, file_of, named_file_of, write_of, writedir_of, apk_fields, places_of, apk_fixed_of, apk_first_of, apk_kept_of, apk_by, apk_of, item_of}
+use Rattle.guest_plan.specs.Items.{host_number, uuid_of, measure_of, measure_in, secret_of, instance_salt_of, instance_of, blob_of, file_of, named_file_of, write_of, writedir_of, apk_fields, places_of, apk_fixed_of, apk_first_of, apk_kept_of, apk_by, apk_of, item_of}
 use Rattle.guest_plan.specs.Plans.{Known, nothing, add, missing, plan_header, plan_of, known, Tells}
+use Rattle.guest_plan.specs.Measures.{IsMeasureText, SaysMeasure}
 use Rattle.guest_plan.specs.Spelling.{IsDevice, IsMeasuredBy, IsHostNumber, IsItem, measure_text, how_text, item_text, IsPlan}
 use Rattle.guest_plan.proofs.Words.{by_word, made_of, ok_is}
 use Rattle.guest_plan.proofs.Uuids.{uuid_takes, uuid_again, guid_printed}
@@ -41,11 +44,7 @@ Is line item = IsItem item × (line ≡ item_text item)
 abbrev measure : ℕ → List ℕ → List ℕ → Measure
 measure blocks salt root = record { blocks = blocks; salt = salt; root = record { 0 = root } }
 
-record IsMeasure (text : List ℕ) (m : Measure) : Type 0 where
-  device : IsDevice m
-  spelled : text ≡ measure_text m
-
-measure_takes : (b s r : List ℕ) (m : Measure) → measure_of b s r ≡ Ok m → IsMeasure (b then s then r) m
+measure_takes : (b s r : List ℕ) (m : Measure) → measure_of b s r ≡ Ok m → IsMeasureText (b then s then r) m
 unfolding measure_of
 measure_takes b s r m e =
     let x = bind_ok (number_in 2 1048577 b) (λ blocks. page_salt s >>= λ salt. hex_of 32 r >>= λ root. Ok (measure blocks salt root)) m e in
@@ -54,7 +53,7 @@ measure_takes b s r m e =
     let blocks = number_takes 2 1048577 b x.0 (omega arith) x.1 in
     let salt = salt_takes s y.0 y.1 in
     let root = hex_takes 32 r z.0 z.1 in
-    subst (IsMeasure (b then s then r)) (ok_is (measure x.0 y.0 z.0) m z.2) (record {
+    subst (IsMeasureText (b then s then r)) (ok_is (measure x.0 y.0 z.0) m z.2) (record {
       device = record { low = blocks.1; high = blocks.2; salt = (salt.1, salt.2); root = root.1 };
       spelled = ap (λ (t : List ℕ). t then s then r) blocks.0 ∙ ap (λ (t : List ℕ). decimal x.0 then t then r) salt.0 ∙ ap (λ (t : List ℕ). decimal x.0 then salt_text y.0 then t) root.0;
     })
@@ -454,6 +453,29 @@ item_again (Line (planned.Apk disk apk idsig how)) h = apk_again disk apk idsig 
 item_again (Line (planned.File name file digest)) h = file_again name file digest.0 h
 item_again (Line (planned.Write name file)) h = write_again name file h
 item_again (Line (planned.WriteDir name file)) h = writedir_again name file h
+
+-- ---- a measure by itself
+
+measure_in_takes : (text : List ℕ) (m : Measure) → measure_in text ≡ Ok m → IsMeasureText text m
+unfolding measure_in
+measure_in_takes text m e =
+    let a = bind_ok (three_fields text) (λ f. measure_of f.0 f.1 f.2) m e in
+    let f = a.0 in
+    subst (λ (t : List ℕ). IsMeasureText t m) (sym (three_take text f a.1).0) (measure_takes f.0 f.1 f.2 m a.2)
+
+measure_in_again : (m : Measure) → IsDevice m → measure_in (measure_text m) ≡ Ok m
+unfolding measure_in
+measure_in_again m h =
+    let n : List ℕ = decimal m.blocks in let s : List ℕ = salt_text m.salt in let t : List ℕ = encode_lower m.root.0 in
+    rw (three_again n s t (free n (blocks_free m h)) (free s (salt_printed m.salt h.salt.1)) (free t (hex_printed m.root.0 h.root.1))) (measure_again m h)
+
+not_both : (r : Result Measure PlanKind) (m : Measure) (k : PlanKind) → r ≡ Ok m → r ≡ Err k → ⊥
+not_both r m k a b = cc
+
+pub measure_says : (text : List ℕ) (r : Result Measure LineFault) → Gives (λ m. m) r (measure_in text) → SaysMeasure text r
+measure_says text (Ok m) e = measure_in_takes text m e
+measure_says text (Err (fault.Kind k)) e = λ m is. not_both (measure_in text) m k (ap measure_in is.spelled ∙ measure_in_again m is.device) e
+measure_says text (Err fault.Memory) e = tt
 
 -- ---- no line feed
 

@@ -33,6 +33,12 @@ measure_of blocks_text salt_text root_text = do
   root ← hex_of 32 root_text
   Ok (record { blocks = blocks; salt = salt; root = record { 0 = root } })
 
+-- a measure, of the text of its three fields
+unfoldable pub measure_in : List ℕ → Result Measure PlanKind
+measure_in text = do
+  f ← three_fields text
+  measure_of f.0 f.1 f.2
+
 unfoldable pub secret_of : List ℕ → Result Item PlanKind
 secret_of line = do
   f ← two_fields line

@@ -4,3 +4,4 @@ pub mod Spelling
 pub mod Apks
 pub mod StoreItems
 pub mod Stores
+pub mod Measures

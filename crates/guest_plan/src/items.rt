@@ -34,8 +34,9 @@ pub fn uuid_of(text: &[u8]) -> Result<Guid, LineFault>
     }
 }
 
+/// A measure, by the texts of its blocks, salt and root.
 #[tactic(auto, unfolding(crate::specs::Items::measure_of))]
-fn measure_of(blocks: &[u8], salt: &[u8], root: &[u8]) -> Result<Measure, LineFault>
+pub(crate) fn measure_of(blocks: &[u8], salt: &[u8], root: &[u8]) -> Result<Measure, LineFault>
     ensures { Gives (λ m. m) result (measure_of blocks.now salt.now root.now) }
 {
     let blocks = number_in(2, BLOCKS, blocks)?;

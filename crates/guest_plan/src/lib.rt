@@ -5,6 +5,7 @@
 mod adding;
 mod apks;
 mod items;
+mod measure;
 mod missing;
 mod plan;
 mod reading;
@@ -14,6 +15,7 @@ mod store_reading;
 mod writing;
 
 pub use crate::items::uuid_of;
+pub use crate::measure::{measure_text, read_measure};
 pub use crate::plan::{How, Plan, PlanLine};
 pub use crate::reading::read_plan;
 pub use crate::store::{Store, StoreLine};
