@@ -19,7 +19,7 @@ use Rattle.gpt.specs.Entries.{is_used}
 use Rattle.gpt.specs.Rules.{is_sized, gpt_of}
 use Rattle.gpt.specs.Names.{part, is_called, span_of, name_units, text_units, IsBounded, UsedIsBounded}
 use Rattle.guest_boot.specs.declared.faults.BootCause.{BootCause}
-use Rattle.guest_boot.specs.declared.faults.BootCause.TheVariants.{Gpt, NoPart, Apk, File, Image, Failed, Short, Memory}
+use Rattle.guest_boot.specs.declared.faults.BootCause.TheVariants.{Gpt, NoPart, Apk, File, Image, Get, Put, NoEntropy, MeasureText, Failed, Short, Memory}
 use Rattle.guest_boot.specs.Finding.{size_call, head_call, tail_call, IsCall, IsTableCall, HeardEnds, ReadsTable, BreaksTable, TableRefused, TableNext, TableFails, TableOn, TableOutcome, SizeOutcome, IsEnd, EndFails, gpt_cause, table_on, HasTable, HasSoFar, with_table, IsKnown, IsPlaced, PlaceFails, PlaceOutcome, IsLooked, FindFails, FindOutcome, IsSpan}
 
 -- ---- parts are spans
@@ -52,6 +52,10 @@ module _ (disk : ℕ) where
   size_fails (Apk f) t h = h
   size_fails (File f) t h = h
   size_fails (Image f) t h = h
+  size_fails (Get f) t h = h
+  size_fails (Put f) t h = h
+  size_fails (NoEntropy left) t h = h
+  size_fails MeasureText t h = h
   size_fails (Failed faults) t h = failed_so (IsCall (size_call disk)) (TableNext disk t.own) t faults (λ call is. inl (h.0, is)) h.1
   size_fails (Short asked got) t h = absurd h
   size_fails Memory t h = (h.0, inl h.1)
@@ -77,6 +81,10 @@ module _ (disk : ℕ) where
     head_fails (Apk f) x y failed le p q = q
     head_fails (File f) x y failed le p q = q
     head_fails (Image f) x y failed le p q = q
+    head_fails (Get f) x y failed le p q = q
+    head_fails (Put f) x y failed le p q = q
+    head_fails (NoEntropy left) x y failed le p q = q
+    head_fails MeasureText x y failed le p q = q
     head_fails (Failed faults) x y failed le p q = failed_so (IsCall (head_call disk)) (TableNext disk (x ++ y)) (trace_of (x ++ y) failed a c) faults
         (λ call is. inr (inl (record { sectors = n; own_is = joined x y _ _ p.1 q.0; sized = p.2 }, is)))
         (failed_later _ a b c x y failed faults le q.1)
@@ -101,6 +109,10 @@ module _ (disk : ℕ) where
     tail_fails (Apk f) x y failed le p q = q
     tail_fails (File f) x y failed le p q = q
     tail_fails (Image f) x y failed le p q = q
+    tail_fails (Get f) x y failed le p q = q
+    tail_fails (Put f) x y failed le p q = q
+    tail_fails (NoEntropy left) x y failed le p q = q
+    tail_fails MeasureText x y failed le p q = q
     tail_fails (Failed faults) x y failed le p q = failed_so (IsCall (tail_call disk n)) (TableNext disk (x ++ y)) (trace_of (x ++ y) failed a c) faults
         (λ call is. inr (inr (record { sectors = n; head = head; own_is = joined x y _ _ p.1 q.0; sized = p.2; head_len = p.3 }, is)))
         (failed_later _ a b c x y failed faults le q.1)
@@ -198,6 +210,10 @@ module _ (tables : List TableOn) (disk : ℕ) where
   unread (Apk f) u is h = (is, h)
   unread (File f) u is h = (is, h)
   unread (Image f) u is h = (is, h)
+  unread (Get f) u is h = (is, h)
+  unread (Put f) u is h = (is, h)
+  unread (NoEntropy left) u is h = (is, h)
+  unread MeasureText u is h = (is, h)
   unread (Failed faults) u is h = (is, h)
   unread (Short asked got) u is h = (is, h)
 
@@ -242,6 +258,10 @@ module _ {A : Type 0} (tables : List TableOn) (disk : ℕ) (look : Table → Res
   looked place t (Err (Apk f)) none p e = absurd e
   looked place t (Err (File f)) none p e = absurd e
   looked place t (Err (Image f)) none p e = absurd e
+  looked place t (Err (Get f)) none p e = absurd e
+  looked place t (Err (Put f)) none p e = absurd e
+  looked place t (Err (NoEntropy left)) none p e = absurd e
+  looked place t (Err MeasureText) none p e = absurd e
   looked place t (Err (Failed faults)) none p e = absurd e
   looked place t (Err (Short asked got)) none p e = absurd e
 
@@ -257,6 +277,10 @@ module _ {A : Type 0} (tables : List TableOn) (disk : ℕ) (look : Table → Res
   no_table (Apk f) t h = h
   no_table (File f) t h = h
   no_table (Image f) t h = h
+  no_table (Get f) t h = h
+  no_table (Put f) t h = h
+  no_table (NoEntropy left) t h = h
+  no_table MeasureText t h = h
   no_table (Failed faults) t h = h
   no_table (Short asked got) t h = h
 

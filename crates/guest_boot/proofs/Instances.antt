@@ -13,7 +13,7 @@ use Rattle.instance_image.specs.Opening.{Opening, opening, IsImageCall, IsNextCa
 use Rattle.guest_plan.specs.declared.plan.PlanLine.{PlanLine}
 use Rattle.guest_plan.specs.declared.plan.PlanLine.TheVariants as line
 use Rattle.guest_boot.specs.declared.faults.BootCause.{BootCause}
-use Rattle.guest_boot.specs.declared.faults.BootCause.TheVariants.{Gpt, NoPart, Apk, File, Image, Failed, Short, Memory}
+use Rattle.guest_boot.specs.declared.faults.BootCause.TheVariants.{Gpt, NoPart, Apk, File, Image, Get, Put, NoEntropy, MeasureText, Failed, Short, Memory}
 use Rattle.guest_boot.specs.declared.faults.BootFault.{BootFault}
 use Rattle.guest_boot.specs.Finding.{TableOn, IsTableCall, one_part, Finds, FindFails, FindOutcome}
 use Rattle.guest_boot.specs.Booting.{InstanceLine, instance_from, instance_in, InstanceStands, IsSalted, IsForImage, IsForLines, most_of_instance, image_cause, ImageBoots, ImageIsRefused, ImageFails, ImageOutcome, InstanceBoots, InstanceOutcome}
@@ -45,6 +45,10 @@ module _ (tables : List TableOn) (disk : ℕ) (part salt : List ℕ) (new : List
   no_part (Apk f) t h = absurd h.1
   no_part (File f) t h = absurd h.1
   no_part (Image f) t h = absurd h.1
+  no_part (Get f) t h = absurd h.1
+  no_part (Put f) t h = absurd h.1
+  no_part (NoEntropy left) t h = absurd h.1
+  no_part MeasureText t h = absurd h.1
   no_part (Failed faults) t h = h
   no_part (Short asked got) t h = h
   no_part Memory t h = (h.0, inl h.1)

@@ -19,14 +19,14 @@ use Rattle.ro_file.specs.declared.files.RoFault.TheVariants as files
 use Rattle.ro_file.specs.Files.{MeasuredFile}
 use Rattle.ro_file.specs.Opening.{IsDescriptorCall, OpenFileOutcome}
 use Rattle.guest_boot.specs.declared.faults.BootCause.{BootCause}
-use Rattle.guest_boot.specs.declared.faults.BootCause.TheVariants.{Gpt, NoPart, Apk, File, Image, Failed, Short, Memory}
+use Rattle.guest_boot.specs.declared.faults.BootCause.TheVariants.{Gpt, NoPart, Apk, File, Image, Get, Put, NoEntropy, MeasureText, Failed, Short, Memory}
 use Rattle.guest_boot.specs.Finding.{TableOn, IsTableCall, table_on, HasSoFar, both_parts, Finds, FindFails, FindOutcome}
 use Rattle.guest_boot.proofs.Finds.{so_far}
 use Rattle.sha_tree.specs.declared.measure.Measure.{Measure}
 use Rattle.sha_tree.specs.Tree.{block_count}
 use Rattle.guest_plan.specs.Spelling.{IsDevice}
 use Rattle.verity_path.specs.declared.device.Device.{Device}
-use Rattle.guest_boot.specs.Booting.{IsItem, AreItems, device_on, Booted, measure_in, IsForApk, ApkBoots, ApkFails, ApkIsRefused, apk_cause, BlobOutcome, FileFails, file_cause, FileOutcome, LineOutcome, IsForLine, most_in_place, ApkOutcome}
+use Rattle.guest_boot.specs.Booting.{IsItem, AreItems, device_on, Booted, measure_in, IsForApk, ApkBoots, ApkFails, ApkIsRefused, apk_cause, BlobOutcome, FileFails, file_cause, FileOutcome, LineOutcome, IsForLine, most_in_place, ApkOutcome, DeviceBoots, DeviceFails, DeviceOutcome}
 
 fits : (m : ℕ) → block_count (4096 * m) ≡ m
 fits m = omega arith
@@ -69,6 +69,10 @@ module _ (s : Booted) (disk : ℕ) (apk idsig : List ℕ) (how : How) where
   no_parts (Apk f) t h = absurd h.1
   no_parts (File f) t h = h
   no_parts (Image f) t h = h
+  no_parts (Get f) t h = h
+  no_parts (Put f) t h = h
+  no_parts (NoEntropy left) t h = h
+  no_parts MeasureText t h = h
   no_parts (Failed faults) t h = h
   no_parts (Short asked got) t h = h
   no_parts Memory t h = (h.0, inl h.1)
@@ -108,7 +112,7 @@ module _ (s : Booted) (disk : ℕ) (apk idsig : List ℕ) (how : How) where
     pub apk_refused : (new : Booted) (f : ApkFault) → Did (IsIdsigCall o) 1 b c (OpenOutcome o (Err f)) → Did (IsForApk disk) 4 a c (ApkOutcome s disk apk idsig how new (Err (apk_cause f)))
     apk_refused new f e = both _ _ e (λ x y failed le p q. named f _ (refused f x y failed le p q))
 
-    boots : (new : Booted) (device : Device) (x y : Exchanges) (failed : ℕ) → new ≡ record { tables = tables; items = s.items ++ device ∷ []; files = s.files; image = s.image } → Finds s.tables disk (both_parts apk idsig) x tables parts
+    boots : (new : Booted) (device : Device) (x y : Exchanges) (failed : ℕ) → new ≡ record s { tables = tables; items = s.items ++ device ∷ [] } → Finds s.tables disk (both_parts apk idsig) x tables parts
         → IsOpened o (Ok device) (trace_of y failed b c) → ApkBoots s disk apk idsig how (x ++ y) new
     boots new device x y failed e p q = record {
       first = x;
@@ -122,13 +126,13 @@ module _ (s : Booted) (disk : ℕ) (apk idsig : List ℕ) (how : How) where
       new_is = e;
     }
 
-    pub apk_boots : (new : Booted) (device : Device) → new ≡ record { tables = tables; items = s.items ++ device ∷ []; files = s.files; image = s.image } → Did (IsIdsigCall o) 1 b c (OpenOutcome o (Ok device))
+    pub apk_boots : (new : Booted) (device : Device) → new ≡ record s { tables = tables; items = s.items ++ device ∷ [] } → Did (IsIdsigCall o) 1 b c (OpenOutcome o (Ok device))
         → Did (IsForApk disk) 4 a c (ApkOutcome s disk apk idsig how new (Ok tt))
     apk_boots new device e d2 = both _ _ d2 (λ x y failed le p q. (q.failed, boots new device x y failed e p q))
 
     -- the device was made, and the list of devices had no room for it
     pub apk_memory : (new : Booted) (device : Device) → Did (IsIdsigCall o) 1 b c (OpenOutcome o (Ok device)) → Did (IsForApk disk) 4 a c (ApkOutcome s disk apk idsig how new (Err Memory))
-    apk_memory new device e = both _ _ e (λ x y failed le p q. (q.failed, inr (_, boots (record { tables = tables; items = s.items ++ device ∷ []; files = s.files; image = s.image }) device x y failed refl p q)))
+    apk_memory new device e = both _ _ e (λ x y failed le p q. (q.failed, inr (_, boots (record s { tables = tables; items = s.items ++ device ∷ [] }) device x y failed refl p q)))
 
 -- ---- a file
 
@@ -148,31 +152,28 @@ module _ (file : ℕ) (digest : Digest) (s new : Booted) (a b : Told) where
   pub file_memory : (f : MeasuredFile) → Did (IsDescriptorCall file) 1 a b (OpenFileOutcome file digest (Ok f)) → Did (IsDescriptorCall file) 1 a b (FileOutcome s file digest new (Err Memory))
   file_memory f d = did_so _ _ 1 1 a b _ _ d (λ call x. x) (omega arith) (λ t o. (o.failed, inr (o.bytes, f, o.own, o.is)))
 
--- ---- lines
+-- ---- a device behind two parts
 
-abbrev DidLine : Booted → Booted → Told → Told → Result (Unit {0}) BootCause → PlanLine → Type 0
-DidLine s new a b r l = Did (IsForLine l) (most_in_place l) a b (LineOutcome s l new r)
+module _ (disk : ℕ) (parts : Span × Span) (measure : Option Measure) (items new : List Device) (a b : Told) where
+  abbrev o : Opening
+  o = opening disk parts.0 parts.1 measure
 
-pub did_instance : (s : Booted) (disk : ℕ) (part : List ℕ) (a : Told) → DidLine s s a a (Ok tt) (line.Instance disk part)
-did_instance s disk part a = did_none _ 0 a _ (refl, (refl, refl))
+  named_device : (f : ApkFault) (t : Trace) → OpenOutcome o (Err f) t → DeviceFails o (apk_cause f) t
+  named_device (apks.Failed faults) t h = h
+  named_device (apks.Short asked got) t h = h
+  named_device (apks.Idsig fault) t h = h
+  named_device apks.SaltMismatch t h = h
+  named_device (apks.RootMismatch expected found) t h = h
+  named_device (apks.TooFewBlocks blocks) t h = h
+  named_device (apks.TooManyBlocks blocks) t h = h
+  named_device (apks.SpanShort blocks sectors) t h = h
+  named_device apks.Memory t h = (h.1.failed, inl h.0)
 
-pub did_blob : (s new : Booted) (file : ℕ) (m : Measure) (a : Told) (r : Result (Unit {0}) BootCause) → BlobOutcome s file m new r → DidLine s new a a r (line.Blob file m)
-did_blob s new file m a (Ok u) e = did_none _ 0 a _ (refl, (refl, e))
-did_blob s new file m a (Err why) e = did_none _ 0 a _ (refl, e)
+  pub device_refused : (f : ApkFault) → Did (IsIdsigCall o) 1 a b (OpenOutcome o (Err f)) → Did (IsIdsigCall o) 1 a b (DeviceOutcome disk parts measure items new (Err (apk_cause f)))
+  device_refused f d = did_so _ _ 1 1 a b _ _ d (λ call x. x) (omega arith) (named_device f)
 
-apk_line : (s new : Booted) (disk : ℕ) (apk idsig : List ℕ) (how : How) (r : Result (Unit {0}) BootCause) (t : Trace) → ApkOutcome s disk apk idsig how new r t → LineOutcome s (line.Apk disk apk idsig how) new r t
-apk_line s new disk apk idsig how (Ok u) t h = h
-apk_line s new disk apk idsig how (Err why) t h = h
+  pub device_added : (device : Device) → new ≡ items ++ device ∷ [] → Did (IsIdsigCall o) 1 a b (OpenOutcome o (Ok device)) → Did (IsIdsigCall o) 1 a b (DeviceOutcome disk parts measure items new (Ok device.measure))
+  device_added device e d = did_so _ _ 1 1 a b _ _ d (λ call x. x) (omega arith) (λ t h. (h.failed, record { bytes = h.bytes; own_is = h.own; device = device; is = sym h.is; new_is = e }, refl))
 
-pub did_apk : (s new : Booted) (disk : ℕ) (apk idsig : List ℕ) (how : How) (a b : Told) (r : Result (Unit {0}) BootCause) → Did (IsForApk disk) 4 a b (ApkOutcome s disk apk idsig how new r) → DidLine s new a b r (line.Apk disk apk idsig how)
-did_apk s new disk apk idsig how a b r d = did_so _ _ 4 4 a b _ _ d (λ call x. x) (omega arith) (apk_line s new disk apk idsig how r)
-
-file_line : (s new : Booted) (name : List ℕ) (file : ℕ) (digest : Digest) (r : Result (Unit {0}) BootCause) (t : Trace) → FileOutcome s file digest new r t → LineOutcome s (line.File name file digest) new r t
-file_line s new name file digest (Ok u) t h = h
-file_line s new name file digest (Err why) t h = h
-
-pub did_file : (s new : Booted) (name : List ℕ) (file : ℕ) (digest : Digest) (a b : Told) (r : Result (Unit {0}) BootCause) → Did (IsDescriptorCall file) 1 a b (FileOutcome s file digest new r) → DidLine s new a b r (line.File name file digest)
-did_file s new name file digest a b r d = did_so _ _ 1 1 a b _ _ d (λ call x. x) (omega arith) (file_line s new name file digest r)
-
-pub did_line : (s new : Booted) (a b : Told) (r : Result (Unit {0}) BootCause) (l k : PlanLine) → l ≡ k → DidLine s new a b r k → Did (IsForLine l) (most_in_place l) a b (LineOutcome s l new r)
-did_line s new a b r l k is d = subst (DidLine s new a b r) (sym is) d
+  pub device_memory : (device : Device) → Did (IsIdsigCall o) 1 a b (OpenOutcome o (Ok device)) → Did (IsIdsigCall o) 1 a b (DeviceOutcome disk parts measure items new (Err Memory))
+  device_memory device d = did_so _ _ 1 1 a b _ _ d (λ call x. x) (omega arith) (λ t h. (h.failed, inr (h.bytes, device, h.own, sym h.is)))

@@ -9,11 +9,12 @@ use Rattle.text_lines.specs.Fields.{◌>>=◌}
 use Rattle.text_lines.specs.Spelling.{collect}
 use Rattle.guest_plan.specs.declared.plan.PlanLine.{PlanLine}
 use Rattle.guest_plan.specs.declared.plan.PlanLine.TheVariants as line
+use Rattle.guest_plan.specs.declared.plan.How.TheVariants as measures
 use Rattle.guest_plan.specs.declared.plan.Item.{Item}
 use Rattle.guest_plan.specs.declared.plan.Item.TheVariants.{Secret, InstanceSalt, Line}
 use Rattle.guest_plan.specs.Plans.{Known, nothing, add, clash, is_instance, first_lacking, has_keys, has_instance, is_kept}
 use Rattle.guest_plan.specs.Spelling.{IsPlan, IsServed, IsItem as IsSaid}
-use Rattle.guest_boot.specs.Booting.{AreServed, PlansAreNumbered, InstanceLine, instance_from, IsSalted, PlansAreSalted, InstanceIsAlone, Booted, LineBoots, ImagesStay}
+use Rattle.guest_boot.specs.Booting.{AreServed, PlansAreNumbered, InstanceLine, instance_from, IsSalted, PlansAreSalted, InstanceIsAlone, Booted, LineBoots, IsUnrecorded, RecordsStay, OthersWriteNothing}
 
 served_push : (lines : List PlanLine) (l : PlanLine) → AreServed lines → IsServed l → AreServed (lines ++ l ∷ [])
 served_push [] l s one = (one, tt)
@@ -222,16 +223,27 @@ alone text plan at disk part p stands =
     let same : 0 + at ≡ at = omega arith in
     subst (λ (k : ℕ). instance_from 0 plan.lines ≡ Some (record { at = k; disk = disk; part = part })) same (alone_from 0 plan.lines at disk part (single 2 nothing plan p.items.items tt p.items.says) stands)
 
--- ---- no line changes the image
+-- ---- a line whose measure is in no record writes nothing
 
-line_stays : (s : Booted) (l : PlanLine) (own : Exchanges) (new : Booted) → LineBoots s l own new → new.image ≡ s.image
-line_stays s (line.Instance disk part) own new b = ap (λ (z : Booted). z.image) b.1
-line_stays s (line.Blob file m) own new b = ap (λ (z : Booted). z.image) b.1
-line_stays s (line.Apk disk apk idsig how) own new b = ap (λ (z : Booted). z.image) b.new_is
-line_stays s (line.File name file digest) own new b = ap (λ (z : Booted). z.image) b.new_is
-line_stays s (line.Write name file) own new b = absurd b
-line_stays s (line.WriteDir name file) own new b = absurd b
+stays_so : (s mid : Booted) → mid.image ≡ s.image → mid.entropy ≡ s.entropy → mid.writings ≡ s.writings → RecordsStay s mid
+stays_so s mid a b c = record { image = a; entropy = b; writings = c }
 
-pub stays : ImagesStay
-stays s [] own new b = ap (λ (z : Booted). z.image) b.1
-stays s (l ∷ lines) own new b = stays b.2 lines b.1 new b.5 ∙ line_stays s l b.0 b.2 b.4
+stays_by : (s mid : Booted) (like : Booted) → mid ≡ like → RecordsStay s like → RecordsStay s mid
+stays_by s mid like e r = subst (RecordsStay s) (sym e) r
+
+line_stays : (s : Booted) (l : PlanLine) (own : Exchanges) (new : Booted) → IsUnrecorded l → LineBoots s l own new → RecordsStay s new
+line_stays s (line.Instance disk part) own new none b = stays_by s new _ b.1 (stays_so s _ refl refl refl)
+line_stays s (line.Blob file m) own new none b = stays_by s new _ b.1 (stays_so s _ refl refl refl)
+line_stays s (line.Apk disk apk idsig (measures.Fixed m)) own new none b = stays_by s new _ b.new_is (stays_so s _ refl refl refl)
+line_stays s (line.Apk disk apk idsig measures.First) own new none b = stays_by s new _ b.new_is (stays_so s _ refl refl refl)
+line_stays s (line.Apk disk apk idsig (measures.Kept uuid)) own new none b = absurd none
+line_stays s (line.File name file digest) own new none b = stays_by s new _ b.new_is (stays_so s _ refl refl refl)
+line_stays s (line.Write name file) own new none b = absurd b
+line_stays s (line.WriteDir name file) own new none b = absurd b
+
+pub stays : OthersWriteNothing
+stays s [] own new none b = stays_by s new s b.1 (stays_so s s refl refl refl)
+stays s (l ∷ lines) own new none b =
+    let one = line_stays s l b.0 b.2 none.0 b.4 in
+    let rest = stays b.2 lines b.1 new none.1 b.5 in
+    record { image = rest.image ∙ one.image; entropy = rest.entropy ∙ one.entropy; writings = rest.writings ∙ one.writings }

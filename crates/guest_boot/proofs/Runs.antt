@@ -1,31 +1,35 @@
 -- One line after another.
 use Rattle.std.proofs.Common.{◌≡◌, ℕ, zero, suc, ◌+◌, ◌<◌, ◌≤◌, ◌∙◌, List, [], ◌∷◌, ◌++◌, length, take, drop, get_or, Option, Some, Ok, Err, refl, ap, sym, subst, inl, inr, arith, append_assoc, append-nil, add-one}
-use Rattle.std.specs.Prelude.{slice_get}
+use Rattle.std.specs.Prelude.{slice_get, ◌⊎◌}
 use Rattle.std.proofs.lemmas.Option.{slice_get_read}
 use Rattle.std.proofs.lemmas.List.{length-take}
 use Rattle.std.proofs.Math.Seq.{take-suc}
 use Rattle.mg_base.specs.declared.values.Digest.{Digest}
 use Rattle.host_traits.specs.declared.calls.Call.{Call}
 use Rattle.host_traits.specs.Told.{Told, Exchanges}
-use Rattle.host_traits.specs.Did.{Did, Trace, trace_of}
-use Rattle.host_traits.proofs.Doing.{did_so, did_then, failed_later}
+use Rattle.host_traits.specs.Did.{Did, DidBy, Trace, trace_of}
+use Rattle.host_traits.proofs.Doing.{did_by_then, failed_later}
 use Rattle.apk_verity.specs.declared.ApkFault.{ApkFault}
 use Rattle.apk_verity.specs.declared.ApkFault.TheVariants as apks
 use Rattle.apk_verity.specs.Opening.{opening}
 use Rattle.ro_file.specs.declared.files.RoFault.{RoFault}
 use Rattle.ro_file.specs.declared.files.RoFault.TheVariants as files
 use Rattle.ro_file.specs.Opening.{IsDescriptorCall, IsRefused}
+use Rattle.mg_base.specs.declared.values.Span.{Span}
 use Rattle.guest_plan.specs.declared.plan.How.{How}
+use Rattle.guest_plan.specs.declared.plan.How.TheVariants as measures
 use Rattle.guest_plan.specs.declared.plan.PlanLine.{PlanLine}
 use Rattle.guest_plan.specs.declared.plan.PlanLine.TheVariants as line
 use Rattle.guest_boot.specs.declared.faults.BootCause.{BootCause}
-use Rattle.guest_boot.specs.declared.faults.BootCause.TheVariants.{Gpt, NoPart, Apk, File, Image, Failed, Short, Memory}
+use Rattle.guest_boot.specs.declared.faults.BootCause.TheVariants.{Gpt, NoPart, Apk, File, Image, Get, Put, NoEntropy, MeasureText, Failed, Short, Memory}
 use Rattle.instance_image.specs.Records.{Kept}
 use Rattle.guest_boot.specs.declared.faults.BootFault.{BootFault}
 use Rattle.guest_boot.specs.declared.lines.Boot.{Boot}
-use Rattle.guest_boot.specs.Finding.{TableNext, TableOn}
-use Rattle.guest_boot.specs.Booting.{Booted, Boots, LineBoots, LineFails, ApkFails, ApkIsRefused, FileFails, LineOutcome, InstanceLine, instance_from, instance_in, BootsFrom, IsForLine, IsForLines, most_of, most_in_place, most_of_instance, measure_in, state_of, before_lines, InstanceOutcome, BootOutcome}
+use Rattle.guest_boot.specs.Finding.{TableNext, TableOn, FindFails, both_parts}
+use Rattle.guest_boot.specs.Recording.{Writing, ReadsOrWrites, DidWriting, MeasureFails}
+use Rattle.guest_boot.specs.Booting.{Booted, Boots, LineBoots, LineFails, ApkFails, ApkFailsBy, ApkIsRefused, FileFails, FoundFails, OpeningFails, KeepingFails, RecordedFails, LineDone, InstanceLine, instance_from, instance_in, Means, BootsFrom, IsForLine, IsForLines, most_of, most_in_place, most_of_instance, measure_in, state_of, before_lines, InstanceOutcome, BootOutcome}
 use Rattle.guest_boot.proofs.Makes.{open_later}
+use Rattle.guest_boot.proofs.Recording.{did_as, did_reading, written_left, written_right, device_later, keep_later, measure_later}
 
 -- ---- lists
 
@@ -105,6 +109,10 @@ module _ (a b c : Told) (y : Exchanges) (failed : ℕ) (le : a.faults ≤ b.faul
   apk_later s disk apk idsig how (Apk apks.Memory) h = h
   apk_later s disk apk idsig how (File f) h = h
   apk_later s disk apk idsig how (Image f) h = h
+  apk_later s disk apk idsig how (Get f) h = h
+  apk_later s disk apk idsig how (Put f) h = h
+  apk_later s disk apk idsig how (NoEntropy left) h = h
+  apk_later s disk apk idsig how MeasureText h = h
   apk_later s disk apk idsig how (Failed faults) h = (h.0, failed_later (TableNext disk y) a b c [] y failed faults le h.1)
   apk_later s disk apk idsig how (Short asked got) h = h
   apk_later s disk apk idsig how Memory h = h
@@ -123,23 +131,96 @@ module _ (a b c : Told) (y : Exchanges) (failed : ℕ) (le : a.faults ≤ b.faul
   file_later file digest (NoPart name) h = h
   file_later file digest (Apk f) h = h
   file_later file digest (Image f) h = h
+  file_later file digest (Get f) h = h
+  file_later file digest (Put f) h = h
+  file_later file digest (NoEntropy left) h = h
+  file_later file digest MeasureText h = h
   file_later file digest (Failed faults) h = h
   file_later file digest (Short asked got) h = h
   file_later file digest Memory h = h
 
-  line_later : (s : Booted) (l : PlanLine) (why : BootCause) → LineFails s l why (trace_of y failed b c) → LineFails s l why (trace_of y failed a c)
-  line_later s (line.Blob file m) why h = h
-  line_later s (line.Apk disk apk idsig how) why h = apk_later s disk apk idsig how why h
-  line_later s (line.File name file digest) why h = file_later file digest why h
-  line_later s (line.Instance disk part) why h = h
-  line_later s (line.Write name file) why h = h
-  line_later s (line.WriteDir name file) why h = h
+  pub found_later : (s : Booted) (disk : ℕ) (parts : Span × Span) (uuid : List ℕ) (why : BootCause) (after : List Writing) → FoundFails s disk parts uuid why after (trace_of y failed b c)
+      → FoundFails s disk parts uuid why after (trace_of y failed a c)
+  found_later s disk parts uuid why after (inl (none, is, same, quiet)) = inl (none, is, same, record { own = quiet.own; failed = quiet.failed })
+  found_later s disk parts uuid why after (inr h) = inr (record {
+    image = h.image;
+    image_is = h.image_is;
+    secret = h.secret;
+    secret_is = h.secret_is;
+    fails = record_later h.image h.secret h.fails;
+  }) where
+    record_later : (image : Kept) (secret : List ℕ)
+        → ((after ≡ s.writings) × (MeasureFails image secret uuid why (trace_of y failed b c) ⊎ OpeningFails disk parts image secret uuid why (trace_of y failed b c))) ⊎ KeepingFails s disk parts image secret uuid why after (trace_of y failed b c)
+        → ((after ≡ s.writings) × (MeasureFails image secret uuid why (trace_of y failed a c) ⊎ OpeningFails disk parts image secret uuid why (trace_of y failed a c))) ⊎ KeepingFails s disk parts image secret uuid why after (trace_of y failed a c)
+    record_later image secret (inl (same, inl h)) = inl (same, inl (measure_later a b c y failed le image secret uuid why h))
+    record_later image secret (inl (same, inr h)) = inl (same, inr (record {
+      got = h.got;
+      rest = h.rest;
+      cut = h.cut;
+      measure = h.measure;
+      measured = h.measured;
+      fails = device_later a b c h.rest failed le (opening disk parts.0 parts.1 h.measure) why h.fails;
+    }))
+    record_later image secret (inr h) = inr (record {
+      empty = h.empty;
+      opened = h.opened;
+      rest = h.rest;
+      cut = h.cut;
+      items = h.items;
+      boots = h.boots;
+      fails = keep_later a b c h.rest failed le image uuid s.entropy h.boots.device.measure why h.fails;
+      written = h.written;
+    })
+
+-- the later part of a trace, seen from before
+module _ (a b c : Told) (y : Exchanges) (failed : ℕ) (le : a.faults ≤ b.faults) where
+  no_parts_later : (s : Booted) (disk : ℕ) (apk idsig : List ℕ) (why : BootCause) → FindFails s.tables disk (both_parts apk idsig) why (trace_of y failed b c)
+      → FindFails s.tables disk (both_parts apk idsig) why (trace_of y failed a c)
+  no_parts_later s disk apk idsig (Failed faults) h = (h.0, failed_later (TableNext disk y) a b c [] y failed faults le h.1)
+  no_parts_later s disk apk idsig (Gpt f) h = h
+  no_parts_later s disk apk idsig (NoPart name) h = h
+  no_parts_later s disk apk idsig (Apk f) h = h
+  no_parts_later s disk apk idsig (File f) h = h
+  no_parts_later s disk apk idsig (Image f) h = h
+  no_parts_later s disk apk idsig (Get f) h = h
+  no_parts_later s disk apk idsig (Put f) h = h
+  no_parts_later s disk apk idsig (NoEntropy left) h = h
+  no_parts_later s disk apk idsig MeasureText h = h
+  no_parts_later s disk apk idsig (Short asked got) h = h
+  no_parts_later s disk apk idsig Memory h = h
+
+  recorded_later : (s : Booted) (disk : ℕ) (apk idsig uuid : List ℕ) (why : BootCause) (after : List Writing) → RecordedFails s disk apk idsig uuid why after (trace_of y failed b c)
+      → RecordedFails s disk apk idsig uuid why after (trace_of y failed a c)
+  recorded_later s disk apk idsig uuid why after (inl (same, h)) = inl (same, no_parts_later s disk apk idsig why h)
+  recorded_later s disk apk idsig uuid why after (inr h) = inr (record {
+    first = h.first;
+    rest = h.rest;
+    cut = h.cut;
+    tables = h.tables;
+    parts = h.parts;
+    found = h.found;
+    fails = found_later a b c h.rest failed le (record s { tables = h.tables }) disk h.parts uuid why after h.fails;
+  })
+
+  apk_by_later : (s : Booted) (disk : ℕ) (apk idsig : List ℕ) (how : How) (why : BootCause) (after : List Writing) → ApkFailsBy s disk apk idsig how why after (trace_of y failed b c)
+      → ApkFailsBy s disk apk idsig how why after (trace_of y failed a c)
+  apk_by_later s disk apk idsig (measures.Fixed m) why after h = (h.0, apk_later a b c y failed le s disk apk idsig (measures.Fixed m) why h.1)
+  apk_by_later s disk apk idsig measures.First why after h = (h.0, apk_later a b c y failed le s disk apk idsig measures.First why h.1)
+  apk_by_later s disk apk idsig (measures.Kept uuid) why after h = recorded_later s disk apk idsig uuid.0 why after h
+
+  line_later : (s : Booted) (l : PlanLine) (why : BootCause) (after : List Writing) → LineFails s l why after (trace_of y failed b c) → LineFails s l why after (trace_of y failed a c)
+  line_later s (line.Blob file m) why after h = h
+  line_later s (line.Apk disk apk idsig how) why after h = apk_by_later s disk apk idsig how why after h
+  line_later s (line.File name file digest) why after h = (h.0, file_later a b c y failed le file digest why h.1)
+  line_later s (line.Instance disk part) why after h = h
+  line_later s (line.Write name file) why after h = h
+  line_later s (line.WriteDir name file) why after h = h
 
 -- ---- the lines in order
 
 -- the instance line, and then a line more
-from_on : (i : Option InstanceLine) (salt : Option (List ℕ)) (s new : Booted) (xs : List PlanLine) (l : PlanLine) (x y : Exchanges) → BootsFrom i salt xs x s → LineBoots s l y new → BootsFrom i salt (xs ++ l ∷ []) (x ++ y) new
-from_on i salt s new xs l x y b one = record {
+from_on : (i : Option InstanceLine) (means : Means) (s new : Booted) (xs : List PlanLine) (l : PlanLine) (x y : Exchanges) → BootsFrom i means xs x s → LineBoots s l y new → BootsFrom i means (xs ++ l ∷ []) (x ++ y) new
+from_on i means s new xs l x y b one = record {
   first = b.first;
   rest = b.rest ++ y;
   cut = ap (λ (z : Exchanges). z ++ y) b.cut ∙ append_assoc b.first b.rest y;
@@ -153,34 +234,54 @@ from_on i salt s new xs l x y b one = record {
 abbrev pub most_so_far : List PlanLine → List PlanLine → ℕ
 most_so_far lines front = most_of_instance (instance_in lines) + most_placed front
 
-module _ (salt : Option (List ℕ)) (lines : List PlanLine) (i : ℕ) (l : PlanLine) (lt : i < length lines) (is : l ≡ get_or lines i l) (a b c : Told) (s : Booted)
-    (d : Did (IsForLines lines) (most_so_far lines (take i lines)) a b (λ t. (t.failed ≡ 0) × BootsFrom (instance_in lines) salt (take i lines) t.own s)) where
+-- what was booted so far, and the writes that were made
+abbrev pub SoFar : Means → List PlanLine → List PlanLine → Boot → List Writing → Trace → Type 0
+SoFar means lines front boot writings t = (t.failed ≡ 0) × BootsFrom (instance_in lines) means front t.own (state_of boot means.secret writings)
+
+module _ (means : Means) (lines : List PlanLine) (i : ℕ) (l : PlanLine) (lt : i < length lines) (is : l ≡ get_or lines i l) (a b c : Told) (s : Boot)
+    (d : DidWriting (IsForLines lines) (most_so_far lines (take i lines)) a b (SoFar means lines (take i lines) s)) where
   for_lines : (call : Call) → IsForLine l call → IsForLines lines call
   for_lines call f = record { at = i; line = l; stands = slice_get_read lines (length lines) i l refl lt is; for = f }
 
-  both : (P R : Trace → Type 0) → Did (IsForLine l) (most_in_place l) b c P
-      → ((x y : Exchanges) (failed : ℕ) → a.faults ≤ b.faults → BootsFrom (instance_in lines) salt (take i lines) x s → P (trace_of y failed b c) → R (trace_of (x ++ y) failed a c))
-      → Did (IsForLines lines) (most_so_far lines (take i lines) + most_in_place l) a c R
-  both P R e f = did_then (IsForLines lines) (most_so_far lines (take i lines)) (most_in_place l) a b c _ P R d (did_so _ _ (most_in_place l) (most_in_place l) b c _ _ e for_lines (omega arith) (λ t p. p)) (λ t p. p.0) (λ x y failed le p q. f x y failed le p.1 q)
+  wider_first : (w : List Writing) (call : Call) (given : List ℕ) → ReadsOrWrites (IsForLines lines) d.writings call given → ReadsOrWrites (IsForLines lines) (d.writings ++ w) call given
+  wider_first w call given (inl r) = inl r
+  wider_first w call given (inr r) = inr (written_left d.writings w call given r)
+
+  wider_later : (w : List Writing) (call : Call) (given : List ℕ) → ReadsOrWrites (IsForLine l) w call given → ReadsOrWrites (IsForLines lines) (d.writings ++ w) call given
+  wider_later w call given (inl r) = inl (for_lines call r.0, r.1)
+  wider_later w call given (inr r) = inr (written_right d.writings w call given r)
+
+  both : (most : ℕ) (P R : List Writing → Trace → Type 0) (e : DidWriting (IsForLine l) (most_in_place l) b c P) → most_so_far lines (take i lines) + most_in_place l ≤ most
+      → ((x y : Exchanges) (failed : ℕ) → a.faults ≤ b.faults → BootsFrom (instance_in lines) means (take i lines) x (state_of s means.secret d.writings) → P e.writings (trace_of y failed b c) → R (d.writings ++ e.writings) (trace_of (x ++ y) failed a c))
+      → DidWriting (IsForLines lines) most a c R
+  both most P R e few f = record {
+    writings = d.writings ++ e.writings;
+    did = did_as _ _ _ most a c _ _
+        (did_by_then (ReadsOrWrites (IsForLines lines) (d.writings ++ e.writings)) (most_so_far lines (take i lines)) (most_in_place l) a b c (SoFar means lines (take i lines) s d.writings) (P e.writings) (R (d.writings ++ e.writings))
+        (did_as _ _ _ _ a b _ _ d.did (wider_first e.writings) (omega arith) (λ t p. p))
+        (did_as _ _ _ _ b c _ _ e.did (wider_later e.writings) (omega arith) (λ t p. p))
+        (λ t p. p.0) (λ x y failed le p q. f x y failed le p.1 q))
+        (λ call given g. g) few (λ t p. p);
+  }
 
   few_next : most_so_far lines (take i lines) + most_in_place l ≤ most_so_far lines (take i lines ++ l ∷ [])
   few_next = omega (arith, placed_next (take i lines) l)
 
-  pub goes_on : (new : Booted) (u : Unit {0}) → Did (IsForLine l) (most_in_place l) b c (LineOutcome s l new (Ok u))
-      → Did (IsForLines lines) (most_so_far lines (take (i + 1) lines)) a c (λ t. (t.failed ≡ 0) × BootsFrom (instance_in lines) salt (take (i + 1) lines) t.own new)
+  pub goes_on : (new : Boot) (u : Unit {0}) → DidWriting (IsForLine l) (most_in_place l) b c (LineDone means.secret s l new (Ok u))
+      → DidWriting (IsForLines lines) (most_so_far lines (take (i + 1) lines)) a c (SoFar means lines (take (i + 1) lines) new)
   goes_on new u e =
-      subst (λ (front : List PlanLine). Did (IsForLines lines) (most_so_far lines front) a c (λ t. (t.failed ≡ 0) × BootsFrom (instance_in lines) salt front t.own new)) (sym (take_next lines i l lt is))
-      (did_so _ _ _ _ a c _ _ (both _ (λ t. (t.failed ≡ 0) × BootsFrom (instance_in lines) salt (take i lines ++ l ∷ []) t.own new) e (λ x y failed le p q. (q.0, from_on (instance_in lines) salt s new (take i lines) l x y p q.1)))
-      (λ call f. f) few_next (λ t p. p))
+      subst (λ (front : List PlanLine). DidWriting (IsForLines lines) (most_so_far lines front) a c (SoFar means lines front new)) (sym (take_next lines i l lt is))
+      (both _ _ (SoFar means lines (take i lines ++ l ∷ []) new) e few_next (λ x y failed le p q.
+        let one = q d.writings in (one.0, from_on (instance_in lines) means (state_of s means.secret d.writings) (state_of new means.secret (d.writings ++ e.writings)) (take i lines) l x y p one.1)))
 
-  pub stops : (numbers : List ℕ) (n : ℕ) (why : BootCause) (new : Booted) → slice_get numbers i ≡ Some n → Did (IsForLine l) (most_in_place l) b c (LineOutcome s l new (Err why))
-      → Did (IsForLines lines) (most_of lines) a c (BootOutcome salt lines numbers (Err (record { line = n; why = why })))
+  pub stops : (numbers : List ℕ) (n : ℕ) (why : BootCause) (new : Boot) → slice_get numbers i ≡ Some n → DidWriting (IsForLine l) (most_in_place l) b c (LineDone means.secret s l new (Err why))
+      → DidWriting (IsForLines lines) (most_of lines) a c (BootOutcome means lines numbers (Err (record { line = n; why = why })))
   stops numbers n why new at e =
       let cut = split_at lines i l lt is in
       let len : length (take i lines) ≡ i = omega (arith, length-take i lines, lt) in
       let within : most_placed (take i lines) + most_in_place l ≤ most_placed lines = subst (λ (z : List PlanLine). most_placed (take i lines) + most_in_place l ≤ most_placed z) (sym cut) (placed_within (take i lines) (drop (suc i) lines) l) in
       let few : most_so_far lines (take i lines) + most_in_place l ≤ most_of lines = omega (arith, within, most_from 0 lines) in
-      did_so _ _ _ _ a c _ _ (both _ _ e (λ x y failed le p q. inr (record {
+      both _ _ (BootOutcome means lines numbers (Err (record { line = n; why = why }))) e few (λ x y failed le p q. inr (record {
         before = take i lines;
         line = l;
         after = drop (suc i) lines;
@@ -189,34 +290,37 @@ module _ (salt : Option (List ℕ)) (lines : List PlanLine) (i : ℕ) (l : PlanL
         first = x;
         rest = y;
         cut = refl;
-        mid = s;
+        mid = state_of s means.secret d.writings;
         booted = p;
-        fails = line_later a b c y failed le s l why q;
-      }))) (λ call f. f) few (λ t p. p)
+        fails = line_later a b c y failed le (state_of s means.secret d.writings) l why (d.writings ++ e.writings) (q d.writings);
+      }))
 
 -- ---- before them, and after them
 
-module _ (salt : Option (List ℕ)) (lines : List PlanLine) (numbers : List ℕ) (a b : Told) (tables : List TableOn) where
-  pub not_begun : (fault : BootFault) → Did (IsForLines lines) (most_of_instance (instance_in lines)) a b (InstanceOutcome salt lines numbers tables (Err fault))
-      → Did (IsForLines lines) (most_of lines) a b (BootOutcome salt lines numbers (Err fault))
+module _ (means : Means) (lines : List PlanLine) (numbers : List ℕ) (a b : Told) (tables : List TableOn) where
+  pub not_begun : (fault : BootFault) → Did (IsForLines lines) (most_of_instance (instance_in lines)) a b (InstanceOutcome means.salt lines numbers tables (Err fault))
+      → DidWriting (IsForLines lines) (most_of lines) a b (BootOutcome means lines numbers (Err fault))
   not_begun fault d =
       let few : most_of_instance (instance_in lines) ≤ most_of lines = omega (arith, most_from 0 lines) in
-      did_so _ _ _ _ a b _ _ d (λ call f. f) few (λ t h. inl h)
+      record { writings = []; did = did_reading _ _ [] _ _ a b _ _ d (λ call f. f) few (λ t h. inl (refl, h)) }
 
-  pub begins : (image : Option Kept) → Did (IsForLines lines) (most_of_instance (instance_in lines)) a b (InstanceOutcome salt lines numbers tables (Ok image))
-      → Did (IsForLines lines) (most_so_far lines []) a b (λ t. (t.failed ≡ 0) × BootsFrom (instance_in lines) salt [] t.own (before_lines tables image))
-  begins image d = did_so _ _ _ _ a b _ _ d (λ call f. f) (omega arith) (λ t h. (
-    h.0,
-    record {
-      first = t.own;
-      rest = [];
-      cut = sym (append-nil t.own);
-      tables = tables;
-      image = image;
-      before = h.1;
-      others = (refl, refl);
-    },
-  ))
+  pub begins : (boot : Boot) (image : Option Kept) → state_of boot means.secret [] ≡ before_lines tables image means.secret means.entropy → Did (IsForLines lines) (most_of_instance (instance_in lines)) a b (InstanceOutcome means.salt lines numbers tables (Ok image))
+      → DidWriting (IsForLines lines) (most_so_far lines []) a b (SoFar means lines [] boot)
+  begins boot image is d = record {
+    writings = [];
+    did = did_reading _ _ [] _ _ a b _ _ d (λ call f. f) (omega arith) (λ t h. (
+      h.0,
+      record {
+        first = t.own;
+        rest = [];
+        cut = sym (append-nil t.own);
+        tables = tables;
+        image = image;
+        before = h.1;
+        others = (refl, is);
+      },
+    ));
+  }
 
 take_all : {A : Type 0} (xs : List A) (i : ℕ) → length xs ≤ i → take i xs ≡ xs
 take_all [] zero le = refl
@@ -224,9 +328,9 @@ take_all [] (suc i) le = refl
 take_all (x ∷ xs) zero le = absurd (omega (arith, le))
 take_all (x ∷ xs) (suc i) le = ap (λ z. x ∷ z) (take_all xs i (omega (arith, le)))
 
-pub ends : (salt : Option (List ℕ)) (lines : List PlanLine) (numbers : List ℕ) (a b : Told) (boot : Boot) (i : ℕ) → length lines ≤ i
-    → Did (IsForLines lines) (most_so_far lines (take i lines)) a b (λ t. (t.failed ≡ 0) × BootsFrom (instance_in lines) salt (take i lines) t.own (state_of boot))
-    → Did (IsForLines lines) (most_of lines) a b (BootOutcome salt lines numbers (Ok (record { items = boot.items; files = boot.files; image = boot.image })))
-ends salt lines numbers a b boot i le d =
-    let whole = subst (λ (z : List PlanLine). Did (IsForLines lines) (most_so_far lines z) a b (λ t. (t.failed ≡ 0) × BootsFrom (instance_in lines) salt z t.own (state_of boot))) (take_all lines i le) d in
-    did_so _ _ _ _ a b _ _ whole (λ call f. f) (most_from 0 lines) (λ t p. (p.0, boot.tables.items, p.1))
+pub ends : (means : Means) (lines : List PlanLine) (numbers : List ℕ) (a b : Told) (boot : Boot) (i : ℕ) → length lines ≤ i
+    → DidWriting (IsForLines lines) (most_so_far lines (take i lines)) a b (SoFar means lines (take i lines) boot)
+    → DidWriting (IsForLines lines) (most_of lines) a b (BootOutcome means lines numbers (Ok (record { items = boot.items; files = boot.files; image = boot.image; entropy = boot.entropy })))
+ends means lines numbers a b boot i le d =
+    let whole = subst (λ (z : List PlanLine). DidWriting (IsForLines lines) (most_so_far lines z) a b (SoFar means lines z boot)) (take_all lines i le) d in
+    record { writings = whole.writings; did = did_as _ _ _ _ a b _ _ whole.did (λ call given f. f) (most_from 0 lines) (λ t p. (p.0, boot.tables.items, p.1)) }

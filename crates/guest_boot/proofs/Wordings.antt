@@ -6,7 +6,7 @@ use Rattle.host_traits.specs.Streams.{SomePrefix}
 use Rattle.host_traits.proofs.Prefixes.{appends_then, appends_then_ok, prefix_second_err}
 use Rattle.std.specs.Fmt.{decimal}
 use Rattle.guest_boot.specs.declared.faults.BootCause.{BootCause}
-use Rattle.guest_boot.specs.declared.faults.BootCause.TheVariants.{Gpt, NoPart, Apk, File, Image, Failed, Short, Memory}
+use Rattle.guest_boot.specs.declared.faults.BootCause.TheVariants.{Gpt, NoPart, Apk, File, Image, Get, Put, NoEntropy, MeasureText, Failed, Short, Memory}
 use Rattle.guest_boot.specs.declared.faults.BootFault.{BootFault}
 use Rattle.guest_boot.specs.Wording.{boot_words, front_words, named, front, boot_end, space, line_feed}
 
@@ -26,6 +26,10 @@ whole_words (Gpt f) = append-nil (boot_words (Gpt f))
 whole_words (Apk f) = append-nil (boot_words (Apk f))
 whole_words (File f) = append-nil (boot_words (File f))
 whole_words (Image f) = append-nil (boot_words (Image f))
+whole_words (Get f) = append-nil (boot_words (Get f))
+whole_words (Put f) = append-nil (boot_words (Put f))
+whole_words (NoEntropy left) = append-nil (boot_words (NoEntropy left))
+whole_words MeasureText = append-nil (boot_words MeasureText)
 whole_words (Failed faults) = append-nil (boot_words (Failed faults))
 whole_words (Short asked got) = append-nil (boot_words (Short asked got))
 whole_words Memory = append-nil (boot_words Memory)

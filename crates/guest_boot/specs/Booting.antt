@@ -15,12 +15,14 @@ use Rattle.verity_path.specs.Calls.{Suits}
 use Rattle.apk_verity.specs.declared.ApkFault.{ApkFault}
 use Rattle.apk_verity.specs.declared.ApkFault.TheVariants as apks
 use Rattle.apk_verity.specs.Opening as apk_opening
+use Rattle.apk_verity.specs.Opening.{Opening}
 use Rattle.ro_file.specs.declared.files.RoFault.{RoFault}
 use Rattle.ro_file.specs.declared.files.RoFault.TheVariants as files
 use Rattle.ro_file.specs.Files.{MeasuredFile}
 use Rattle.ro_file.specs.Opening as file_opening
 use Rattle.instance_image.specs.declared.faults.ImageFault.{ImageFault}
 use Rattle.instance_image.specs.declared.faults.ImageFault.TheVariants as images
+use Rattle.instance_image.specs.declared.faults.GetFault.TheVariants as gets
 use Rattle.instance_image.specs.Records.{Kept}
 use Rattle.instance_image.specs.Opening as image_opening
 use Rattle.guest_plan.specs.declared.plan.How.{How}
@@ -30,21 +32,20 @@ use Rattle.guest_plan.specs.declared.plan.PlanLine.TheVariants as line
 use Rattle.guest_plan.specs.Plans.{Known}
 use Rattle.guest_plan.specs.Spelling.{IsServed, IsPlan}
 use Rattle.guest_boot.specs.declared.faults.BootCause.{BootCause}
-use Rattle.guest_boot.specs.declared.faults.BootCause.TheVariants.{Gpt, NoPart, Apk, File, Image, Failed, Short, Memory}
+use Rattle.guest_boot.specs.declared.faults.BootCause.TheVariants.{Gpt, NoPart, Apk, File, Image, Get, Put, NoEntropy, MeasureText, Failed, Short, Memory}
 use Rattle.guest_boot.specs.declared.faults.BootFault.{BootFault}
 use Rattle.guest_boot.specs.declared.lines.Boot.{Boot}
 use Rattle.guest_boot.specs.declared.lines.Opened.{Opened}
 use Rattle.guest_boot.specs.Finding.{TableOn, IsTableCall, table_on, HasSoFar, both_parts, one_part, Finds, FindFails}
+use Rattle.guest_boot.specs.Recording.{Writing, IsQuiet, IsGetting, IsEmpty, Measured, MeasureFails, measure_writing, measure_writings, Keeps, KeepFails}
 
 -- ---- which lines are opened
 
--- the instance, a measured device, an APK device whose measure is in the plan or the host's, or a read-only file
+-- the instance, a measured device, an APK device, or a read-only file
 abbrev pub IsBuilt : PlanLine → Type 0
 IsBuilt (line.Instance disk part) = Unit {0}
 IsBuilt (line.Blob file m) = Unit {0}
-IsBuilt (line.Apk disk apk idsig (measures.Fixed m)) = Unit {0}
-IsBuilt (line.Apk disk apk idsig measures.First) = Unit {0}
-IsBuilt (line.Apk disk apk idsig (measures.Kept id)) = ⊥
+IsBuilt (line.Apk disk apk idsig how) = Unit {0}
 IsBuilt (line.File name file digest) = Unit {0}
 IsBuilt (line.Write name file) = ⊥
 IsBuilt (line.WriteDir name file) = ⊥
@@ -115,10 +116,23 @@ IsForApk disk call = IsTableCall disk call ⊎ ((part : Span) × (call ≡ Block
 abbrev pub IsForImage : ℕ → Call → Type 0
 IsForImage disk call = IsTableCall disk call ⊎ ((sector : ℕ) × (call ≡ BlockRead disk sector 1))
 
+-- where the measure is in a record: behind the parts, the record and the idsig
+abbrev pub IsForFound : ℕ → Call → Type 0
+IsForFound disk call = IsGetting call ⊎ ((part : Span) × (call ≡ BlockRead disk part.first (min part.sectors 136)))
+
+abbrev pub IsForRecorded : ℕ → Call → Type 0
+IsForRecorded disk call = IsTableCall disk call ⊎ IsForFound disk call
+
+abbrev pub IsForMeasured : ℕ → How → Call → Type 0
+IsForMeasured disk (measures.Fixed m) call = IsForApk disk call
+IsForMeasured disk measures.First call = IsForApk disk call
+IsForMeasured disk (measures.Kept uuid) call = IsForRecorded disk call
+
+-- The calls that hand nothing over. What a line writes is said by what came of it (`Writing`).
 abbrev pub IsForLine : PlanLine → Call → Type 0
 IsForLine (line.Instance disk part) call = IsForImage disk call
 IsForLine (line.Blob file m) call = ⊥
-IsForLine (line.Apk disk apk idsig how) call = IsForApk disk call
+IsForLine (line.Apk disk apk idsig how) call = IsForMeasured disk how call
 IsForLine (line.File name file digest) call = call ≡ DescriptorOf file
 IsForLine (line.Write name file) call = ⊥
 IsForLine (line.WriteDir name file) call = ⊥
@@ -140,11 +154,17 @@ most_before (line.File name file digest) = 0
 most_before (line.Write name file) = 0
 most_before (line.WriteDir name file) = 0
 
--- In its place, an APK device asks for the size of its disk, its two ends and its idsig, a file for its descriptor.
+-- In its place, an APK device asks for the size of its disk, its two ends and its idsig, and gets or puts its record, where its
+-- measure is in one; a file asks for its descriptor.
+abbrev pub most_measured : How → ℕ
+most_measured (measures.Fixed m) = 4
+most_measured measures.First = 4
+most_measured (measures.Kept uuid) = 6
+
 abbrev pub most_in_place : PlanLine → ℕ
 most_in_place (line.Instance disk part) = 0
 most_in_place (line.Blob file m) = 0
-most_in_place (line.Apk disk apk idsig how) = 4
+most_in_place (line.Apk disk apk idsig how) = most_measured how
 most_in_place (line.File name file digest) = 1
 most_in_place (line.Write name file) = 0
 most_in_place (line.WriteDir name file) = 0
@@ -162,29 +182,45 @@ most_of (l ∷ lines) = most_of_line l + most_of lines
 
 -- ---- what lines make
 
--- the tables that were read, the devices and files that were opened, and the instance's image, so far
+-- the tables that were read, the devices and files that were opened, the instance's image and the secret of its records, the bytes
+-- of entropy that are left, and the writes that were made, so far
 pub record Booted : Type 0 where
   pub tables : List TableOn
   pub items : List Device
   pub files : List MeasuredFile
   pub image : Option Kept
+  pub secret : Option (List ℕ)
+  pub entropy : List ℕ
+  pub writings : List Writing
 
-abbrev pub state_of : Boot → Booted
-state_of b = record { tables = b.tables.items; items = b.items.items; files = b.files.items; image = b.image }
+abbrev pub state_of : Boot → Option (List ℕ) → List Writing → Booted
+state_of b secret writings = record {
+  tables = b.tables.items;
+  items = b.items.items;
+  files = b.files.items;
+  image = b.image;
+  secret = secret;
+  entropy = b.entropy;
+  writings = writings;
+}
 
--- before the lines: no devices and no files
-abbrev pub before_lines : List TableOn → Option Kept → Booted
-before_lines tables image = record { tables = tables; items = []; files = []; image = image }
+-- the same, with nothing said of secret and writes
+abbrev pub plain_of : Boot → Booted
+plain_of b = state_of b None []
+
+-- before the lines: no devices and no files, and nothing written
+abbrev pub before_lines : List TableOn → Option Kept → Option (List ℕ) → List ℕ → Booted
+before_lines tables image secret entropy = record { tables = tables; items = []; files = []; image = image; secret = secret; entropy = entropy; writings = [] }
 
 -- a measured device on a file of the host, with whole blocks
 abbrev pub device_on : ℕ → Measure → Device
 device_on file m = record { measure = m; layout = layout.File file (4096 * m.blocks) }
 
 abbrev pub with_item : Booted → Device → Booted
-with_item s d = record { tables = s.tables; items = s.items ++ d ∷ []; files = s.files; image = s.image }
+with_item s d = record s { items = s.items ++ d ∷ [] }
 
 abbrev pub with_file : Booted → MeasuredFile → Booted
-with_file s f = record { tables = s.tables; items = s.items; files = s.files ++ f ∷ []; image = s.image }
+with_file s f = record s { files = s.files ++ f ∷ [] }
 
 -- the measure that an APK device has to have, if any
 abbrev pub measure_in : How → Option Measure
@@ -203,7 +239,59 @@ pub record ApkBoots (s : Booted) (disk : ℕ) (apk idsig : List ℕ) (how : How)
   pub cut : own ≡ first ++ (apk_opening.idsig_call (apk_opening.opening disk parts.0 parts.1 (measure_in how)), Bytes bytes) ∷ []
   pub device : Device
   pub is : apk_opening.opened (apk_opening.opening disk parts.0 parts.1 (measure_in how)) bytes ≡ Ok device
-  pub new_is : new ≡ record { tables = tables; items = s.items ++ device ∷ []; files = s.files; image = s.image }
+  pub new_is : new ≡ record s { tables = tables; items = s.items ++ device ∷ [] }
+
+-- The device of these two parts, behind these devices, by the exchange of its idsig.
+pub record DeviceBoots (disk : ℕ) (parts : Span × Span) (measure : Option Measure) (items : List Device) (own : Exchanges) (new : List Device) : Type 0 where
+  pub bytes : List ℕ
+  pub own_is : own ≡ (apk_opening.idsig_call (apk_opening.opening disk parts.0 parts.1 measure), Bytes bytes) ∷ []
+  pub device : Device
+  pub is : apk_opening.opened (apk_opening.opening disk parts.0 parts.1 measure) bytes ≡ Ok device
+  pub new_is : new ≡ items ++ device ∷ []
+
+-- The measure of the device that was opened is put into the record: the exchange of its write.
+pub record MeasureIsKept (s : Booted) (image : Kept) (secret uuid : List ℕ) (m : Measure) (own : Exchanges) (new : Booted) : Type 0 where
+  pub now : Kept
+  pub left : List ℕ
+  pub keeps : Keeps image uuid s.entropy m own now left
+  pub new_is : new ≡ record s { image = Some now; entropy = left; writings = s.writings ++ measure_writing image secret uuid s.entropy m keeps.1.part ∷ [] }
+
+-- where the record gave the measure, nothing is put; where it is empty, that of the device is
+abbrev pub MeasureIsIn : Booted → Kept → List ℕ → List ℕ → Option Measure → Measure → Exchanges → Booted → Type 0
+MeasureIsIn s image secret uuid (Some kept) m own new = (own ≡ []) × (new ≡ s)
+MeasureIsIn s image secret uuid None m own new = MeasureIsKept s image secret uuid m own new
+
+-- An APK device of these two parts whose measure is in a record of the image: the exchange of the record, unless it is empty; then
+-- that of its idsig, which opens it as the record's measure says, if any; and that of the record's write, where it was empty.
+pub record FoundBoots (s : Booted) (disk : ℕ) (parts : Span × Span) (uuid : List ℕ) (own : Exchanges) (new : Booted) : Type 0 where
+  pub image : Kept
+  pub image_is : s.image ≡ Some image
+  pub secret : List ℕ
+  pub secret_is : s.secret ≡ Some secret
+  pub got : Exchanges
+  pub measure : Option Measure
+  pub measured : Measured image secret uuid got measure
+  pub opened : Exchanges
+  pub items : List Device
+  pub boots : DeviceBoots disk parts measure s.items opened items
+  pub put : Exchanges
+  pub kept : MeasureIsIn (record s { items = items }) image secret uuid measure boots.device.measure put new
+  pub cut : own ≡ got ++ (opened ++ put)
+
+-- the same behind the exchanges of its disk's table, unless that was read before
+pub record RecordedBoots (s : Booted) (disk : ℕ) (apk idsig uuid : List ℕ) (own : Exchanges) (new : Booted) : Type 0 where
+  pub first : Exchanges
+  pub tables : List TableOn
+  pub parts : Span × Span
+  pub found : Finds s.tables disk (both_parts apk idsig) first tables parts
+  pub rest : Exchanges
+  pub cut : own ≡ first ++ rest
+  pub behind : FoundBoots (record s { tables = tables }) disk parts uuid rest new
+
+abbrev pub ApkBootsBy : Booted → ℕ → List ℕ → List ℕ → How → Exchanges → Booted → Type 0
+ApkBootsBy s disk apk idsig (measures.Fixed m) own new = ApkBoots s disk apk idsig (measures.Fixed m) own new
+ApkBootsBy s disk apk idsig measures.First own new = ApkBoots s disk apk idsig measures.First own new
+ApkBootsBy s disk apk idsig (measures.Kept uuid) own new = RecordedBoots s disk apk idsig uuid.0 own new
 
 -- A read-only file: the exchange of its descriptor, which has the line's digest.
 pub record FileBoots (s : Booted) (file : ℕ) (digest : Digest) (own : Exchanges) (new : Booted) : Type 0 where
@@ -219,7 +307,7 @@ pub record FileBoots (s : Booted) (file : ℕ) (digest : Digest) (own : Exchange
 abbrev pub LineBoots : Booted → PlanLine → Exchanges → Booted → Type 0
 LineBoots s (line.Instance disk part) own new = (own ≡ []) × (new ≡ s)
 LineBoots s (line.Blob file m) own new = (own ≡ []) × (new ≡ with_item s (device_on file m))
-LineBoots s (line.Apk disk apk idsig how) own new = ApkBoots s disk apk idsig how own new
+LineBoots s (line.Apk disk apk idsig how) own new = ApkBootsBy s disk apk idsig how own new
 LineBoots s (line.File name file digest) own new = FileBoots s file digest own new
 LineBoots s (line.Write name file) own new = ⊥
 LineBoots s (line.WriteDir name file) own new = ⊥
@@ -229,9 +317,29 @@ abbrev pub Boots : Booted → List PlanLine → Exchanges → Booted → Type 0
 Boots s [] own new = (own ≡ []) × (new ≡ s)
 Boots s (l ∷ lines) own new = (first : Exchanges) × (rest : Exchanges) × (mid : Booted) × (own ≡ first ++ rest) × LineBoots s l first mid × Boots mid lines rest new
 
--- Law: no line changes the image.
-abbrev pub ImagesStay : Type 0
-ImagesStay = (s : Booted) (lines : List PlanLine) (own : Exchanges) (new : Booted) → Boots s lines own new → new.image ≡ s.image
+-- its measure is in no record
+abbrev pub IsUnrecorded : PlanLine → Type 0
+IsUnrecorded (line.Instance disk part) = Unit {0}
+IsUnrecorded (line.Blob file m) = Unit {0}
+IsUnrecorded (line.Apk disk apk idsig (measures.Fixed m)) = Unit {0}
+IsUnrecorded (line.Apk disk apk idsig measures.First) = Unit {0}
+IsUnrecorded (line.Apk disk apk idsig (measures.Kept uuid)) = ⊥
+IsUnrecorded (line.File name file digest) = Unit {0}
+IsUnrecorded (line.Write name file) = Unit {0}
+IsUnrecorded (line.WriteDir name file) = Unit {0}
+
+abbrev pub AreUnrecorded : List PlanLine → Type 0
+AreUnrecorded lines = AllByRecursion IsUnrecorded lines
+
+-- the image, the entropy and the writes are as before
+pub record RecordsStay (s new : Booted) : Type 0 where
+  pub image : new.image ≡ s.image
+  pub entropy : new.entropy ≡ s.entropy
+  pub writings : new.writings ≡ s.writings
+
+-- Law: no other line changes these.
+abbrev pub OthersWriteNothing : Type 0
+OthersWriteNothing = (s : Booted) (lines : List PlanLine) (own : Exchanges) (new : Booted) → AreUnrecorded lines → Boots s lines own new → RecordsStay s new
 
 -- ---- what a plan makes: its instance line before all lines, wherever it stands, and then the lines in their order
 
@@ -251,19 +359,28 @@ InstanceBoots None salt own tables image = (own ≡ []) × (tables ≡ []) × (i
 InstanceBoots (Some i) None own tables image = ⊥
 InstanceBoots (Some i) (Some salt) own tables image = (kept : Kept) × (image ≡ Some kept) × ImageBoots [] i.disk i.part salt own tables kept
 
+-- what a plan gives boot besides its lines, and the bytes of entropy
+pub record Means : Type 0 where
+  pub salt : Option (List ℕ)
+  pub secret : Option (List ℕ)
+  pub entropy : List ℕ
+
+abbrev pub means_of : Known → List ℕ → Means
+means_of plan entropy = record { salt = plan.salt; secret = plan.secret; entropy = entropy }
+
 -- the exchanges are those of this instance line, and then those of these lines
-pub record BootsFrom (instance : Option InstanceLine) (salt : Option (List ℕ)) (lines : List PlanLine) (own : Exchanges) (new : Booted) : Type 0 where
+pub record BootsFrom (instance : Option InstanceLine) (means : Means) (lines : List PlanLine) (own : Exchanges) (new : Booted) : Type 0 where
   pub first : Exchanges
   pub rest : Exchanges
   pub cut : own ≡ first ++ rest
   pub tables : List TableOn
   pub image : Option Kept
-  pub before : InstanceBoots instance salt first tables image
-  pub others : Boots (before_lines tables image) lines rest new
+  pub before : InstanceBoots instance means.salt first tables image
+  pub others : Boots (before_lines tables image means.secret means.entropy) lines rest new
 
--- what the lines of a plan of this salt make
-abbrev pub PlanBoots : Option (List ℕ) → List PlanLine → Exchanges → Booted → Type 0
-PlanBoots salt lines own new = BootsFrom (instance_in lines) salt lines own new
+-- what the lines of a plan make
+abbrev pub PlanBoots : Means → List PlanLine → Exchanges → Booted → Type 0
+PlanBoots means lines own new = BootsFrom (instance_in lines) means lines own new
 
 -- ---- why a line was not opened
 
@@ -292,6 +409,84 @@ ApkFails s disk apk idsig how (Apk apks.Memory) t = ⊥
 ApkFails s disk apk idsig how (Apk why) t = ApkIsRefused s disk apk idsig how why t
 ApkFails s disk apk idsig how why t = FindFails s.tables disk (both_parts apk idsig) why t
 
+-- why the device of two parts was not opened: where there was no memory, nothing was heard, or the idsig of a device that opens
+abbrev pub DeviceStops : Opening → Exchanges → Type 0
+DeviceStops o own =
+    (own ≡ []) ⊎ ((bytes : List ℕ) × (device : Device) × (own ≡ (apk_opening.idsig_call o, Bytes bytes) ∷ []) × (apk_opening.opened o bytes ≡ Ok device))
+
+abbrev pub DeviceFails : Opening → BootCause → Trace → Type 0
+DeviceFails o (Apk apks.Memory) t = ⊥
+DeviceFails o (Apk why) t = apk_opening.OpenOutcome o (Err why) t
+DeviceFails o Memory t = (t.failed ≡ 0) × DeviceStops o t.own
+DeviceFails o (Gpt why) t = ⊥
+DeviceFails o (NoPart name) t = ⊥
+DeviceFails o (File why) t = ⊥
+DeviceFails o (Image why) t = ⊥
+DeviceFails o (Get why) t = ⊥
+DeviceFails o (Put why) t = ⊥
+DeviceFails o (NoEntropy left) t = ⊥
+DeviceFails o MeasureText t = ⊥
+DeviceFails o (Failed faults) t = ⊥
+DeviceFails o (Short asked got) t = ⊥
+
+-- why it failed behind the two parts, in this order: there is no image of records, or no secret of them
+abbrev pub HasNoRecords : Booted → Type 0
+HasNoRecords s = (s.image ≡ None) ⊎ (s.secret ≡ None)
+
+-- the measure was got, or the record is empty; and the device was not opened
+pub record OpeningFails (disk : ℕ) (parts : Span × Span) (image : Kept) (secret uuid : List ℕ) (why : BootCause) (t : Trace) : Type 0 where
+  pub got : Exchanges
+  pub rest : Exchanges
+  pub cut : t.own ≡ got ++ rest
+  pub measure : Option Measure
+  pub measured : Measured image secret uuid got measure
+  pub fails : DeviceFails (apk_opening.opening disk parts.0 parts.1 measure) why (later_of t rest)
+
+-- The record is empty, and the device was opened; and its measure was not put. What was sealed for a write that failed counts as
+-- written: the host may hold it.
+pub record KeepingFails (s : Booted) (disk : ℕ) (parts : Span × Span) (image : Kept) (secret uuid : List ℕ) (why : BootCause) (after : List Writing) (t : Trace) : Type 0 where
+  pub empty : IsEmpty image uuid
+  pub opened : Exchanges
+  pub rest : Exchanges
+  pub cut : t.own ≡ opened ++ rest
+  pub items : List Device
+  pub boots : DeviceBoots disk parts None s.items opened items
+  pub fails : KeepFails image uuid s.entropy boots.device.measure why (later_of t rest)
+  pub written : after ≡ s.writings ++ measure_writings image secret uuid s.entropy boots.device.measure
+
+-- the measure was not got, or one of these
+pub record RecordFails (s : Booted) (disk : ℕ) (parts : Span × Span) (uuid : List ℕ) (why : BootCause) (after : List Writing) (t : Trace) : Type 0 where
+  pub image : Kept
+  pub image_is : s.image ≡ Some image
+  pub secret : List ℕ
+  pub secret_is : s.secret ≡ Some secret
+  pub fails : ((after ≡ s.writings) × (MeasureFails image secret uuid why t ⊎ OpeningFails disk parts image secret uuid why t))
+      ⊎ KeepingFails s disk parts image secret uuid why after t
+
+abbrev pub FoundFails : Booted → ℕ → Span × Span → List ℕ → BootCause → List Writing → Trace → Type 0
+FoundFails s disk parts uuid why after t =
+    (HasNoRecords s × (why ≡ Get gets.NoRecord) × (after ≡ s.writings) × IsQuiet t) ⊎ RecordFails s disk parts uuid why after t
+
+-- the two parts were found by the first exchanges, and by the rest it failed so
+pub record BehindParts (s : Booted) (disk : ℕ) (apk idsig uuid : List ℕ) (why : BootCause) (after : List Writing) (t : Trace) : Type 0 where
+  pub first : Exchanges
+  pub rest : Exchanges
+  pub cut : t.own ≡ first ++ rest
+  pub tables : List TableOn
+  pub parts : Span × Span
+  pub found : Finds s.tables disk (both_parts apk idsig) first tables parts
+  pub fails : FoundFails (record s { tables = tables }) disk parts uuid why after (later_of t rest)
+
+-- the parts were not found, or it failed behind them
+abbrev pub RecordedFails : Booted → ℕ → List ℕ → List ℕ → List ℕ → BootCause → List Writing → Trace → Type 0
+RecordedFails s disk apk idsig uuid why after t =
+    ((after ≡ s.writings) × FindFails s.tables disk (both_parts apk idsig) why t) ⊎ BehindParts s disk apk idsig uuid why after t
+
+abbrev pub ApkFailsBy : Booted → ℕ → List ℕ → List ℕ → How → BootCause → List Writing → Trace → Type 0
+ApkFailsBy s disk apk idsig (measures.Fixed m) why after t = (after ≡ s.writings) × ApkFails s disk apk idsig (measures.Fixed m) why t
+ApkFailsBy s disk apk idsig measures.First why after t = (after ≡ s.writings) × ApkFails s disk apk idsig measures.First why t
+ApkFailsBy s disk apk idsig (measures.Kept uuid) why after t = RecordedFails s disk apk idsig uuid.0 why after t
+
 -- there was no memory: nothing was heard, or the descriptor of a file that opens
 abbrev pub FileStops : ℕ → Digest → Exchanges → Type 0
 FileStops file digest own =
@@ -308,13 +503,14 @@ abbrev pub BlobFails : BootCause → Type 0
 BlobFails Memory = Unit {0}
 BlobFails other = ⊥
 
-abbrev pub LineFails : Booted → PlanLine → BootCause → Trace → Type 0
-LineFails s (line.Instance disk part) why t = ⊥
-LineFails s (line.Blob file m) why t = (t.failed ≡ 0) × BlobFails why
-LineFails s (line.Apk disk apk idsig how) why t = ApkFails s disk apk idsig how why t
-LineFails s (line.File name file digest) why t = FileFails file digest why t
-LineFails s (line.Write name file) why t = ⊥
-LineFails s (line.WriteDir name file) why t = ⊥
+-- why a line failed, and the writes that were made then
+abbrev pub LineFails : Booted → PlanLine → BootCause → List Writing → Trace → Type 0
+LineFails s (line.Instance disk part) why after t = ⊥
+LineFails s (line.Blob file m) why after t = (after ≡ s.writings) × (t.failed ≡ 0) × BlobFails why
+LineFails s (line.Apk disk apk idsig how) why after t = ApkFailsBy s disk apk idsig how why after t
+LineFails s (line.File name file digest) why after t = (after ≡ s.writings) × FileFails file digest why t
+LineFails s (line.Write name file) why after t = ⊥
+LineFails s (line.WriteDir name file) why after t = ⊥
 
 -- the part was found, and opening its image came to this
 pub record ImageIsRefused (tables : List TableOn) (disk : ℕ) (part salt : List ℕ) (why : ImageFault) (t : Trace) : Type 0 where
@@ -339,6 +535,10 @@ ImageFails tables disk part salt (Image images.Memory) t = ⊥
 ImageFails tables disk part salt (Image why) t = ImageIsRefused tables disk part salt why t
 ImageFails tables disk part salt (Failed faults) t = FindFails tables disk (one_part part) (Failed faults) t
 ImageFails tables disk part salt (Short asked got) t = FindFails tables disk (one_part part) (Short asked got) t
+ImageFails tables disk part salt (Get why) t = ⊥
+ImageFails tables disk part salt (Put why) t = ⊥
+ImageFails tables disk part salt (NoEntropy left) t = ⊥
+ImageFails tables disk part salt MeasureText t = ⊥
 ImageFails tables disk part salt Memory t = (t.failed ≡ 0) × ImageStops tables disk part salt t
 
 -- The instance line failed for this reason, with no exchanges before its own. Its number is the fault's.
@@ -352,7 +552,7 @@ pub record InstanceIsFault (salt : Option (List ℕ)) (lines : List PlanLine) (n
 
 -- The instance and the lines before one booted by the first exchanges, and that line failed by the rest, for this reason. Its number
 -- is the fault's.
-pub record LineIsFault (salt : Option (List ℕ)) (lines : List PlanLine) (numbers : List ℕ) (fault : BootFault) (t : Trace) : Type 0 where
+pub record LineIsFault (means : Means) (lines : List PlanLine) (numbers : List ℕ) (fault : BootFault) (writings : List Writing) (t : Trace) : Type 0 where
   pub before : List PlanLine
   pub line : PlanLine
   pub after : List PlanLine
@@ -362,12 +562,13 @@ pub record LineIsFault (salt : Option (List ℕ)) (lines : List PlanLine) (numbe
   pub rest : Exchanges
   pub cut : t.own ≡ first ++ rest
   pub mid : Booted
-  pub booted : BootsFrom (instance_in lines) salt before first mid
-  pub fails : LineFails mid line fault.why (later_of t rest)
+  pub booted : BootsFrom (instance_in lines) means before first mid
+  pub fails : LineFails mid line fault.why writings (later_of t rest)
 
--- Where the reason is a failed call, that one call failed, and was the last; else no call failed.
-abbrev pub IsFault : Option (List ℕ) → List PlanLine → List ℕ → BootFault → Trace → Type 0
-IsFault salt lines numbers fault t = InstanceIsFault salt lines numbers fault t ⊎ LineIsFault salt lines numbers fault t
+-- Where the reason is a failed call, that one call failed, and was the last; else no call failed. These writes were made.
+abbrev pub IsFault : Means → List PlanLine → List ℕ → BootFault → List Writing → Trace → Type 0
+IsFault means lines numbers fault after t =
+    ((after ≡ []) × InstanceIsFault means.salt lines numbers fault t) ⊎ LineIsFault means lines numbers fault after t
 
 -- the causes of a device, a file and an image that were not opened: want of memory is boot's own
 abbrev pub apk_cause : ApkFault → BootCause
@@ -388,6 +589,11 @@ abbrev pub BlobOutcome : Booted → ℕ → Measure → Booted → Result (Unit 
 BlobOutcome s file m new (Ok u) = new ≡ with_item s (device_on file m)
 BlobOutcome s file m new (Err why) = BlobFails why
 
+-- the device's measure
+abbrev pub DeviceOutcome : ℕ → Span × Span → Option Measure → List Device → List Device → Result Measure BootCause → Trace → Type 0
+DeviceOutcome disk parts measure items new (Ok m) t = (t.failed ≡ 0) × (b : DeviceBoots disk parts measure items t.own new) × (b.device.measure ≡ m)
+DeviceOutcome disk parts measure items new (Err why) t = DeviceFails (apk_opening.opening disk parts.0 parts.1 measure) why t
+
 abbrev pub ApkOutcome : Booted → ℕ → List ℕ → List ℕ → How → Booted → Result (Unit {0}) BootCause → Trace → Type 0
 ApkOutcome s disk apk idsig how new (Ok u) t = (t.failed ≡ 0) × ApkBoots s disk apk idsig how t.own new
 ApkOutcome s disk apk idsig how new (Err why) t = ApkFails s disk apk idsig how why t
@@ -399,7 +605,42 @@ FileOutcome s file digest new (Err why) t = FileFails file digest why t
 -- what one line made, or why it was not opened
 abbrev pub LineOutcome : Booted → PlanLine → Booted → Result (Unit {0}) BootCause → Trace → Type 0
 LineOutcome s l new (Ok u) t = (t.failed ≡ 0) × LineBoots s l t.own new
-LineOutcome s l new (Err why) t = LineFails s l why t
+LineOutcome s l new (Err why) t = LineFails s l why new.writings t
+
+-- the same, where the writes made before it are any, and these are its own
+abbrev pub LineDone : Option (List ℕ) → Boot → PlanLine → Boot → Result (Unit {0}) BootCause → List Writing → Trace → Type 0
+LineDone secret s l new result own t = (earlier : List Writing) → LineOutcome (state_of s secret earlier) l (state_of new secret (earlier ++ own)) result t
+
+-- what an APK device made whose measure is in a record, or why it was not opened
+abbrev pub RecordedOutcome : Booted → ℕ → List ℕ → List ℕ → List ℕ → Booted → Result (Unit {0}) BootCause → Trace → Type 0
+RecordedOutcome s disk apk idsig uuid new (Ok u) t = (t.failed ≡ 0) × RecordedBoots s disk apk idsig uuid t.own new
+RecordedOutcome s disk apk idsig uuid new (Err why) t = RecordedFails s disk apk idsig uuid why new.writings t
+
+abbrev pub RecordedDone : Option (List ℕ) → Boot → ℕ → List ℕ → List ℕ → List ℕ → Boot → Result (Unit {0}) BootCause → List Writing → Trace → Type 0
+RecordedDone secret s disk apk idsig uuid new result own t =
+    (earlier : List Writing) → RecordedOutcome (state_of s secret earlier) disk apk idsig uuid (state_of new secret (earlier ++ own)) result t
+
+abbrev pub FoundOutcome : Booted → ℕ → Span × Span → List ℕ → Booted → Result (Unit {0}) BootCause → Trace → Type 0
+FoundOutcome s disk parts uuid new (Ok u) t = (t.failed ≡ 0) × FoundBoots s disk parts uuid t.own new
+FoundOutcome s disk parts uuid new (Err why) t = FoundFails s disk parts uuid why new.writings t
+
+-- the image, the entropy and the devices of a state
+pub record Recorded : Type 0 where
+  pub image : Kept
+  pub entropy : List ℕ
+  pub items : List Device
+
+abbrev pub with_recorded : Booted → Recorded → List ℕ → Booted
+with_recorded s r secret = record s { image = Some r.image; secret = Some secret; entropy = r.entropy; items = r.items }
+
+-- the same, whatever else stands in the state, where these writes are its own
+abbrev pub MeasuredDone : ℕ → Span × Span → List ℕ → List ℕ → Recorded → Recorded → Result (Unit {0}) BootCause → List Writing → Trace → Type 0
+MeasuredDone disk parts uuid secret old new result own t =
+    (s : Booted) → FoundOutcome (with_recorded s old secret) disk parts uuid (with_recorded (record s { writings = s.writings ++ own }) new secret) result t
+
+abbrev pub FoundDone : Option (List ℕ) → Boot → ℕ → Span × Span → List ℕ → Boot → Result (Unit {0}) BootCause → List Writing → Trace → Type 0
+FoundDone secret s disk parts uuid new result own t =
+    (earlier : List Writing) → FoundOutcome (state_of s secret earlier) disk parts uuid (state_of new secret (earlier ++ own)) result t
 
 -- what the image's line made, or why it was not opened
 abbrev pub ImageOutcome : List TableOn → ℕ → List ℕ → List ℕ → List TableOn → Result Kept BootCause → Trace → Type 0
@@ -411,11 +652,19 @@ abbrev pub InstanceOutcome : Option (List ℕ) → List PlanLine → List ℕ �
 InstanceOutcome salt lines numbers tables (Ok image) t = (t.failed ≡ 0) × InstanceBoots (instance_in lines) salt t.own tables image
 InstanceOutcome salt lines numbers tables (Err fault) t = InstanceIsFault salt lines numbers fault t
 
--- what all of it made, or why not
-abbrev pub BootOutcome : Option (List ℕ) → List PlanLine → List ℕ → Result Opened BootFault → Trace → Type 0
-BootOutcome salt lines numbers (Ok o) t =
-    (t.failed ≡ 0) × (tables : List TableOn) × PlanBoots salt lines t.own (record { tables = tables; items = o.items.items; files = o.files.items; image = o.image })
-BootOutcome salt lines numbers (Err fault) t = IsFault salt lines numbers fault t
+-- what all of it made, or why not, with these writes
+abbrev pub BootOutcome : Means → List PlanLine → List ℕ → Result Opened BootFault → List Writing → Trace → Type 0
+BootOutcome means lines numbers (Ok o) writings t =
+    (t.failed ≡ 0) × (tables : List TableOn) × PlanBoots means lines t.own (record {
+      tables = tables;
+      items = o.items.items;
+      files = o.files.items;
+      image = o.image;
+      secret = means.secret;
+      entropy = o.entropy;
+      writings = writings;
+    })
+BootOutcome means lines numbers (Err fault) writings t = IsFault means lines numbers fault writings t
 
 -- an item has from 2 to 1,048,576 blocks, and its places are such
 pub record IsItem (it : Device) : Type 0 where

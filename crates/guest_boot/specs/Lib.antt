@@ -1,3 +1,4 @@
 pub mod Finding
+pub mod Recording
 pub mod Booting
 pub mod Wording

@@ -17,8 +17,12 @@ use Rattle.ro_file.specs.declared.files.RoFault.{RoFault}
 use Rattle.ro_file.specs.declared.files.RoFault.TheVariants as file
 use Rattle.instance_image.specs.declared.faults.ImageFault.{ImageFault}
 use Rattle.instance_image.specs.declared.faults.ImageFault.TheVariants as image
+use Rattle.instance_image.specs.declared.faults.GetFault.{GetFault}
+use Rattle.instance_image.specs.declared.faults.GetFault.TheVariants as get
+use Rattle.instance_image.specs.declared.faults.PutFault.{PutFault}
+use Rattle.instance_image.specs.declared.faults.PutFault.TheVariants as put
 use Rattle.guest_boot.specs.declared.faults.BootCause.{BootCause}
-use Rattle.guest_boot.specs.declared.faults.BootCause.TheVariants.{Gpt, NoPart, Apk, File, Image, Failed, Short, Memory}
+use Rattle.guest_boot.specs.declared.faults.BootCause.TheVariants.{Gpt, NoPart, Apk, File, Image, Get, Put, NoEntropy, MeasureText, Failed, Short, Memory}
 use Rattle.guest_boot.specs.declared.faults.BootFault.{BootFault}
 
 abbrev pub space : List ℕ
@@ -102,12 +106,31 @@ image_words (image.Header sector) = codes "header " ++ decimal sector
 image_words (image.TooMany sector) = codes "toomany " ++ decimal sector
 image_words image.Memory = codes "memory"
 
+-- the tag that was heard is printed, and not the right one
+abbrev pub get_words : GetFault → List ℕ
+get_words get.NoRecord = codes "norecord"
+get_words (get.Failed faults) = codes "failed " ++ decimal faults
+get_words (get.Short asked got) = codes "short " ++ pair asked got
+get_words (get.Changed sector) = codes "changed " ++ decimal sector
+get_words (get.Tag tag) = codes "tag " ++ encode_lower tag.found
+get_words get.Memory = codes "memory"
+
+abbrev pub put_words : PutFault → List ℕ
+put_words put.NoRecord = codes "norecord"
+put_words (put.TooLarge text room) = codes "toolarge " ++ pair text room
+put_words put.Memory = codes "memory"
+put_words (put.Failed faults) = codes "failed " ++ decimal faults
+
 abbrev pub boot_words : BootCause → List ℕ
 boot_words (Gpt fault) = codes "gpt " ++ gpt_words fault
 boot_words (NoPart name) = codes "nopart " ++ string_bytes name
 boot_words (Apk fault) = codes "apk " ++ apk_words fault
 boot_words (File fault) = codes "file " ++ file_words fault
 boot_words (Image fault) = codes "image " ++ image_words fault
+boot_words (Get fault) = codes "get " ++ get_words fault
+boot_words (Put fault) = codes "put " ++ put_words fault
+boot_words (NoEntropy left) = codes "noentropy " ++ decimal left
+boot_words MeasureText = codes "measuretext"
 boot_words (Failed faults) = codes "failed " ++ decimal faults
 boot_words (Short asked got) = codes "short " ++ pair asked got
 boot_words Memory = codes "memory"

@@ -1,7 +1,7 @@
 // Why boot came to no end.
 use apk_verity::ApkFault;
 use gpt::GptFault;
-use instance_image::ImageFault;
+use instance_image::{GetFault, ImageFault, PutFault};
 use ro_file::RoFault;
 
 /// The first thing that went wrong, and the number of its line in the plan's text.
@@ -24,6 +24,14 @@ pub enum BootCause {
     File(RoFault),
     /// The instance image was not opened.
     Image(ImageFault),
+    /// The record that keeps the line's measure was not read.
+    Get(GetFault),
+    /// The measure was not put into its record, which is empty.
+    Put(PutFault),
+    /// Fewer than 12 bytes of entropy are left, so the measure was not put into its record; how many.
+    NoEntropy { left: u64 },
+    /// The text of the record is not that of a measure.
+    MeasureText,
     /// A call for the disk's table failed; how often calls had failed after it.
     Failed { faults: u64 },
     /// An answer for the disk's table had fewer bytes than were asked for.

@@ -1,19 +1,24 @@
 // A plan: its instance image, and then its lines in their order.
-ghost use Rattle.std.specs.Prelude.{◌≡◌, ◌≤◌, ℕ, List, IfOk, IfSome, MatchOption, None, Some};
+ghost use Rattle.std.specs.Prelude.{◌≡◌, ◌≤◌, ℕ, List, IfOk, IfSome, MatchOption, None, Some, option_copied};
 ghost use Rattle.host_traits.specs.Did.{Did};
 ghost use Rattle.ro_file.specs.Opening.{IsDescriptorCall};
 ghost use Rattle.guest_plan.specs.Plans.{known};
 ghost use Rattle.guest_plan.specs.Spelling.{IsPlan, IsServed, IsMeasuredBy, IsDevice};
-ghost use Rattle.guest_boot.specs.Booting.{IsBuilt, AreBuilt, AreItems, apk_cause, file_cause, measure_in, state_of, IsForLine, most_in_place, IsForLines, most_of, IsForApk, BlobOutcome, ApkOutcome, FileOutcome, LineOutcome, BootOutcome};
+ghost use Rattle.guest_boot.specs.Recording.{DidWriting};
+ghost use Rattle.guest_boot.specs.Finding.{AreSpans};
+ghost use Rattle.apk_verity.specs.Opening.{opening, IsIdsigCall};
+ghost use Rattle.guest_boot.specs.Booting.{IsBuilt, AreBuilt, AreItems, apk_cause, file_cause, measure_in, plain_of, means_of, IsForLine, most_in_place, IsForLines, most_of, IsForApk, IsForFound, IsForRecorded, BlobOutcome, ApkOutcome, FileOutcome, DeviceOutcome, MeasuredDone, FoundDone, RecordedDone, LineDone, BootOutcome};
 
+use crate::entropy::Entropy;
 use crate::faults::{BootCause, BootFault};
 use crate::instance::open_instance;
+use crate::records::{got_measure, keep_measure};
 use crate::tables::{DiskTable, parts_on};
 use apk_verity::{ApkFault, open_apk};
 use guest_plan::{How, Plan, PlanLine};
 use host_traits::{Host, Raw};
-use instance_image::Image;
-use mg_base::Digest;
+use instance_image::{GetFault, Image};
+use mg_base::{Digest, Guid, Span};
 use ro_file::{RoFault, RoFile, open_file};
 use sha_tree::Measure;
 use std::alloc::Global;
@@ -29,6 +34,8 @@ pub struct Opened {
     pub files: Vec<RoFile>,
     /// The instance image, where the plan has one.
     pub image: Option<Image>,
+    /// The entropy that is left.
+    pub entropy: Entropy,
 }
 
 // What was read and opened so far.
@@ -38,6 +45,7 @@ struct Boot {
     items: Vec<Device>,
     files: Vec<RoFile>,
     image: Option<Image>,
+    entropy: Entropy,
 }
 
 // The measure that an APK device has to have, if any.
@@ -87,7 +95,7 @@ fn boot_apk<H: Host>(
     requires how { IsMeasuredBy how.now }
     requires items { AreItems boot.old.items.items }
     ensures did { Did (IsForApk disk) 4 (H.told host.old) (H.told host.new)
-        (ApkOutcome (state_of boot.old) disk apk.now idsig.now how.now (state_of boot.new) result) }
+        (ApkOutcome (plain_of boot.old) disk apk.now idsig.now how.now (plain_of boot.new) result) }
     ensures items { AreItems boot.new.items.items }
 {
     let (first, second) = match parts_on(alloc, host, disk, apk, idsig, &mut boot.tables, raw) {
@@ -113,7 +121,7 @@ fn boot_file<H: Host>(
     raw: &mut Raw,
 ) -> Result<(), BootCause>
     ensures did { Did (IsDescriptorCall file) 1 (H.told host.old) (H.told host.new)
-        (FileOutcome (state_of boot.old) file digest.now (state_of boot.new) result) }
+        (FileOutcome (plain_of boot.old) file digest.now (plain_of boot.new) result) }
     ensures items { boot.new.items ≡ boot.old.items }
 {
     let opened = match open_file(host, file, digest, raw) {
@@ -130,7 +138,7 @@ fn boot_file<H: Host>(
 fn boot_blob(file: u32, measure: &Measure, boot: &mut Boot) -> Result<(), BootCause>
     requires measure { IsDevice measure.now }
     requires items { AreItems boot.old.items.items }
-    ensures value { BlobOutcome (state_of boot.old) file measure.now (state_of boot.new) result }
+    ensures value { BlobOutcome (plain_of boot.old) file measure.now (plain_of boot.new) result }
     ensures items { AreItems boot.new.items.items }
 {
     let device = Device {
@@ -146,19 +154,145 @@ fn boot_blob(file: u32, measure: &Measure, boot: &mut Boot) -> Result<(), BootCa
     }
 }
 
+// The device of an APK's part and its idsig's, and its measure.
+fn add_device<H: Host>(
+    host: &mut H,
+    disk: u32,
+    parts: (Span, Span),
+    measure: Option<&Measure>,
+    items: &mut Vec<Device>,
+    raw: &mut Raw,
+) -> Result<Measure, BootCause>
+    requires spans { AreSpans parts }
+    requires range { IfSome measure (λ m. (2 ≤ m.now.blocks) × (m.now.blocks ≤ 1048576)) }
+    requires items { AreItems items.old.items }
+    ensures did { Did (IsIdsigCall (opening disk parts.0 parts.1 (option_copied measure.entry))) 1
+        (H.told host.old) (H.told host.new) (DeviceOutcome disk parts
+        (option_copied measure.entry) items.old.items items.new.items result) }
+    ensures items { AreItems items.new.items }
+{
+    let device = match open_apk(host, disk, parts.0, parts.1, measure, raw) {
+        Ok(device) => device,
+        Err(fault) => return Err(apk_cause(fault)),
+    };
+    let found = device.measure;
+    match items.push(device) {
+        Ok(()) => Ok(found),
+        Err(_) => Err(BootCause::Memory),
+    }
+}
+
+// An APK device of these parts whose measure is in the record of a UUID: the record is got, unless it is empty, and used as a
+// measure in the plan. Where it is empty, the device is opened first, and its measure then put into the record.
+fn boot_measured<H: Host>(
+    alloc: Global,
+    host: &mut H,
+    disk: u32,
+    parts: (Span, Span),
+    uuid: &Guid,
+    secret: &[u8; 32],
+    image: &mut Image,
+    entropy: &mut Entropy,
+    items: &mut Vec<Device>,
+    raw: &mut Raw,
+) -> Result<(), BootCause>
+    requires spans { AreSpans parts }
+    requires items { AreItems items.old.items }
+    ensures did { DidWriting (IsForFound disk) 3 (H.told host.old) (H.told host.new)
+        (MeasuredDone disk parts uuid.now.0 secret.now
+        (record { image = image.old; entropy = entropy.old; items = items.old.items })
+        (record { image = image.new; entropy = entropy.new; items = items.new.items }) result) }
+    ensures items { AreItems items.new.items }
+{
+    let measure = match got_measure(alloc, host, image, secret, uuid, raw) {
+        Ok(measure) => measure,
+        Err(why) => return Err(why),
+    };
+    let found = match add_device(host, disk, parts, measure.as_ref(), items, raw) {
+        Ok(found) => found,
+        Err(why) => return Err(why),
+    };
+    match measure {
+        Some(_) => Ok(()),
+        None => keep_measure(alloc, host, image, entropy, secret, uuid, &found),
+    }
+}
+
+// The same with the records of a boot, where there are such.
+fn boot_found<H: Host>(
+    alloc: Global,
+    host: &mut H,
+    disk: u32,
+    parts: (Span, Span),
+    uuid: &Guid,
+    secret: &Option<[u8; 32]>,
+    boot: &mut Boot,
+    raw: &mut Raw,
+) -> Result<(), BootCause>
+    requires spans { AreSpans parts }
+    requires items { AreItems boot.old.items.items }
+    ensures did { DidWriting (IsForFound disk) 3 (H.told host.old) (H.told host.new)
+        (FoundDone secret.now boot.old disk parts uuid.now.0 boot.new result) }
+    ensures items { AreItems boot.new.items.items }
+{
+    let Some(secret) = secret else {
+        return Err(BootCause::Get(GetFault::NoRecord));
+    };
+    let Some(image) = &mut boot.image else {
+        return Err(BootCause::Get(GetFault::NoRecord));
+    };
+    boot_measured(
+        alloc,
+        host,
+        disk,
+        parts,
+        uuid,
+        secret,
+        image,
+        &mut boot.entropy,
+        &mut boot.items,
+        raw,
+    )
+}
+
+// An APK device whose measure is in a record. Its parts are found before the record is looked up.
+fn boot_recorded<H: Host>(
+    alloc: Global,
+    host: &mut H,
+    disk: u32,
+    apk: &Name,
+    idsig: &Name,
+    uuid: &Guid,
+    secret: &Option<[u8; 32]>,
+    boot: &mut Boot,
+    raw: &mut Raw,
+) -> Result<(), BootCause>
+    requires items { AreItems boot.old.items.items }
+    ensures did { DidWriting (IsForRecorded disk) 6 (H.told host.old) (H.told host.new)
+        (RecordedDone secret.now boot.old disk apk.now idsig.now uuid.now.0 boot.new result) }
+    ensures items { AreItems boot.new.items.items }
+{
+    let parts = match parts_on(alloc, host, disk, apk, idsig, &mut boot.tables, raw) {
+        Ok(parts) => parts,
+        Err(why) => return Err(why),
+    };
+    boot_found(alloc, host, disk, parts, uuid, secret, boot, raw)
+}
+
 // One line in its place. The instance line makes nothing there: its image was opened before.
 fn boot_line<H: Host>(
     alloc: Global,
     host: &mut H,
     line: &PlanLine,
+    secret: &Option<[u8; 32]>,
     boot: &mut Boot,
     raw: &mut Raw,
 ) -> Result<(), BootCause>
     requires built { IsBuilt line.now }
     requires served { IsServed line.now }
     requires items { AreItems boot.old.items.items }
-    ensures did { Did (IsForLine line.now) (most_in_place line.now) (H.told host.old)
-        (H.told host.new) (LineOutcome (state_of boot.old) line.now (state_of boot.new) result) }
+    ensures did { DidWriting (IsForLine line.now) (most_in_place line.now) (H.told host.old)
+        (H.told host.new) (LineDone secret.now boot.old line.now boot.new result) }
     ensures items { AreItems boot.new.items.items }
 {
     match line {
@@ -169,7 +303,12 @@ fn boot_line<H: Host>(
             apk,
             idsig,
             how,
-        } => boot_apk(alloc, host, *disk, apk, idsig, how, boot, raw),
+        } => match how {
+            How::Kept(uuid) => {
+                boot_recorded(alloc, host, *disk, apk, idsig, uuid, secret, boot, raw)
+            }
+            _ => boot_apk(alloc, host, *disk, apk, idsig, how, boot, raw),
+        },
         PlanLine::File {
             name: _,
             file,
@@ -181,20 +320,22 @@ fn boot_line<H: Host>(
 
 /// Opens a plan. First comes its instance line, wherever it stands: it reads its disk's table and opens the image in its part,
 /// under the plan's salt. Then come the lines in their order. A `blob` line makes a device and calls nothing. An `apk` line reads
-/// its disk's table, unless that was read before, and opens the APK's part by its idsig's. A `file` line opens a file by its
-/// digest. The first fault ends it, with the number of its line in the plan's text.
+/// its disk's table, unless that was read before, and opens the APK's part by its idsig's; where its measure is in a record, that is
+/// got before the APK is opened, or, where it is empty, put after it, sealed under the next 12 bytes of entropy. A `file` line opens a
+/// file by its digest. The first fault ends it, with the number of its line in the plan's text.
 pub fn open_lines<H: Host>(
     alloc: Global,
     host: &mut H,
     plan: &Plan,
+    entropy: Entropy,
     raw: &mut Raw,
 ) -> Result<Opened, BootFault>
     requires plan { (text : List ℕ) × IsPlan text (known plan.now) }
     requires built { AreBuilt plan.now.lines.items }
     // The calls of the instance line and of the lines in their order, and what came of them.
-    ensures booted { Did (IsForLines plan.now.lines.items) (most_of plan.now.lines.items)
-        (H.told host.old) (H.told host.new) (BootOutcome plan.now.salt plan.now.lines.items
-        plan.now.numbers.items result) }
+    ensures booted { DidWriting (IsForLines plan.now.lines.items) (most_of plan.now.lines.items)
+        (H.told host.old) (H.told host.new) (BootOutcome (means_of (known plan.now) entropy)
+        plan.now.lines.items plan.now.numbers.items result) }
     // Each device can be read.
     ensures items { IfOk result (λ o. AreItems o.items.items) }
 {
@@ -208,9 +349,17 @@ pub fn open_lines<H: Host>(
         items: Vec::new(alloc),
         files: Vec::new(alloc),
         image,
+        entropy,
     };
     for index in 0..plan.lines.len() {
-        match boot_line(alloc, host, &plan.lines[index], &mut boot, raw) {
+        match boot_line(
+            alloc,
+            host,
+            &plan.lines[index],
+            &plan.secret,
+            &mut boot,
+            raw,
+        ) {
             Ok(()) => {}
             Err(why) => {
                 let line = plan.numbers[index];
@@ -222,5 +371,6 @@ pub fn open_lines<H: Host>(
         items: boot.items,
         files: boot.files,
         image: boot.image,
+        entropy: boot.entropy,
     })
 }

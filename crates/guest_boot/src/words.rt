@@ -3,7 +3,7 @@ ghost use Rattle.std.specs.Prelude.{◌≡◌, ◌≤◌, ◌+◌, ◌++◌, len
 ghost use Rattle.std.specs.Io.KnownBytes.{Appends};
 ghost use Rattle.std.specs.Fmt.{decimal, signed_decimal};
 ghost use Rattle.host_traits.specs.Streams.{SomePrefix, HasCause};
-ghost use Rattle.guest_boot.specs.Wording.{gpt_words, idsig_words, apk_words, descriptor_words, file_words, image_words, front_words, named, front, boot_end, space, pair, crc_text, digests};
+ghost use Rattle.guest_boot.specs.Wording.{gpt_words, idsig_words, apk_words, descriptor_words, file_words, image_words, get_words, put_words, front_words, named, front, boot_end, space, pair, crc_text, digests};
 
 use crate::faults::{BootCause, BootFault};
 use crate::row::Row;
@@ -11,7 +11,7 @@ use apk_verity::ApkFault;
 use gpt::GptFault;
 use host_traits::{Failed, Sink};
 use idsig_v4::IdsigFault;
-use instance_image::ImageFault;
+use instance_image::{GetFault, ImageFault, PutFault};
 use mg_base::Digest;
 use ro_file::RoFault;
 use verity_descriptor::DescriptorFault;
@@ -183,6 +183,37 @@ fn put_image(row: &mut Row, fault: &ImageFault)
     }
 }
 
+fn put_get(row: &mut Row, fault: &GetFault)
+    requires { length row.old ≤ 60 }
+    ensures value { row.new ≡ row.old ++ get_words fault.now }
+    ensures len { length row.new ≤ 200 }
+{
+    match fault {
+        GetFault::NoRecord => row.put(b"norecord"),
+        GetFault::Failed { faults } => put_number(row, b"failed ", *faults),
+        GetFault::Short { asked, got } => put_pair(row, b"short ", *asked, *got),
+        GetFault::Changed { sector } => put_number(row, b"changed ", *sector),
+        GetFault::Tag(tag) => {
+            row.put(b"tag ");
+            row.hex(&tag.found);
+        }
+        GetFault::Memory => row.put(b"memory"),
+    }
+}
+
+fn put_put(row: &mut Row, fault: &PutFault)
+    requires { length row.old ≤ 60 }
+    ensures value { row.new ≡ row.old ++ put_words fault.now }
+    ensures len { length row.new ≤ 200 }
+{
+    match fault {
+        PutFault::NoRecord => row.put(b"norecord"),
+        PutFault::TooLarge { text, room } => put_pair(row, b"toolarge ", *text, *room),
+        PutFault::Memory => row.put(b"memory"),
+        PutFault::Failed { faults } => put_number(row, b"failed ", *faults),
+    }
+}
+
 // The words of a cause, but for the name at their end.
 fn put_front(row: &mut Row, why: &BootCause)
     requires { length row.old ≤ 40 }
@@ -207,6 +238,16 @@ fn put_front(row: &mut Row, why: &BootCause)
             row.put(b"image ");
             put_image(row, fault);
         }
+        BootCause::Get(fault) => {
+            row.put(b"get ");
+            put_get(row, fault);
+        }
+        BootCause::Put(fault) => {
+            row.put(b"put ");
+            put_put(row, fault);
+        }
+        BootCause::NoEntropy { left } => put_number(row, b"noentropy ", *left),
+        BootCause::MeasureText => row.put(b"measuretext"),
         BootCause::Failed { faults } => put_number(row, b"failed ", *faults),
         BootCause::Short { asked, got } => put_pair(row, b"short ", *asked, *got),
         BootCause::Memory => row.put(b"memory"),

@@ -1,20 +1,34 @@
-use Rattle.std.proofs.Common.{◌≡◌, ◌<◌, ◌≤◌, length, refl, arith}
+use Rattle.std.proofs.Common.{◌≡◌, ◌<◌, ◌≤◌, ◌∙◌, List, [], length, refl, ap, sym, subst, arith}
+use Rattle.verity_path.specs.declared.device.Device.{Device}
+use Rattle.ro_file.specs.Files.{MeasuredFile}
 use Rattle.std.proofs.lemmas.Option.{slice_get_read}
 use Rattle.guest_plan.specs.Plans.{known}
-use Rattle.guest_boot.specs.Booting.{state_of}
+use Rattle.guest_boot.specs.Booting.{Booted, AreItems, means_of}
 use Rattle.guest_boot.proofs.Plans.{plan_served, plan_numbered, served_at}
 use Rattle.guest_boot.proofs.Runs.{not_begun, begins, goes_on, stops, ends}
 use Rattle.guest_boot.proofs.lines.open_lines.Goals as goal
 
 pub returns-in-Err-clause-booted : goal.returns-in-Err-clause-booted
 returns-in-Err-clause-booted g c =
-    not_begun c.args.plan.now.salt c.args.plan.now.lines.items c.args.plan.now.numbers.items _ _ c.open_instance.new.tables.items c.in-Err.fault c.in-Err.ensures
+    not_begun (means_of (known c.args.plan.now) c.args.entropy) c.args.plan.now.lines.items c.args.plan.now.numbers.items _ _ c.open_instance.new.tables.items c.in-Err.fault c.in-Err.ensures
 
 pub loop-index-init : goal.loop-index-init
-loop-index-init g c = rw (c.new.ensures.items, c.new-2.ensures.items) (record {
-  booted = begins c.args.plan.now.salt c.args.plan.now.lines.items c.args.plan.now.numbers.items _ _ c.open_instance.new.tables.items c.in-Ok.image c.in-Ok.ensures;
-  items = λ k it at. cc;
-})
+loop-index-init g c =
+    let secret = c.args.plan.now.secret in
+    let made : List Device → List MeasuredFile → Booted = λ items files. record {
+      tables = c.open_instance.new.tables.items;
+      items = items;
+      files = files;
+      image = c.in-Ok.image;
+      secret = secret;
+      entropy = c.args.entropy;
+      writings = [];
+    } in
+    record {
+      booted = begins (means_of (known c.args.plan.now) c.args.entropy) c.args.plan.now.lines.items c.args.plan.now.numbers.items _ _ c.open_instance.new.tables.items (record { tables = c.open_instance.new.tables; items = c.new.result; files = c.new-2.result; image = c.in-Ok.image; entropy = c.args.entropy }) c.in-Ok.image
+          (ap (λ (items : List Device). made items c.new-2.result.items) c.new.ensures.items ∙ ap (λ (files : List MeasuredFile). made [] files) c.new-2.ensures.items) c.in-Ok.ensures;
+      items = subst AreItems (sym c.new.ensures.items) (λ k it at. cc);
+    }
 
 pub boot_line-requires-clause-served : goal.boot_line-requires-clause-served
 boot_line-requires-clause-served g c =
@@ -32,15 +46,15 @@ returns-in-Err-boot_line-clause-booted g c =
     let numbers = c.args.plan.now.numbers.items in
     let even : length numbers ≡ length lines = plan_numbered c.requires.plan.0 (known c.args.plan.now) c.requires.plan.1 in
     let inside : c.loop-index.index < length lines = omega (arith, c.args.plan.now.lines.ok, c.loop-index-test.true) in
-    stops c.args.plan.now.salt lines c.loop-index.index c.index.result.now inside c.index.ensures _ _ _ (state_of c.loop-index.boot) c.loop-index.invariant.booted
-    numbers c.index-line.result.now c.in-Err-boot_line.why (state_of c.boot_line.new.boot) (slice_get_read numbers (length numbers) c.loop-index.index c.index-line.result.now refl (omega (arith, even, inside)) c.index-line.ensures) c.in-Err-boot_line.ensures.did
+    stops (means_of (known c.args.plan.now) c.args.entropy) lines c.loop-index.index c.index.result.now inside c.index.ensures _ _ _ c.loop-index.boot c.loop-index.invariant.booted
+    numbers c.index-line.result.now c.in-Err-boot_line.why c.boot_line.new.boot (slice_get_read numbers (length numbers) c.loop-index.index c.index-line.result.now refl (omega (arith, even, inside)) c.index-line.ensures) c.in-Err-boot_line.ensures.did
 
 pub loop-index-preserved : goal.loop-index-preserved
 loop-index-preserved g c =
     let lines = c.args.plan.now.lines.items in
     let inside : c.loop-index.index < length lines = omega (arith, c.args.plan.now.lines.ok, c.loop-index-test.true) in
     record {
-      booted = goes_on c.args.plan.now.salt lines c.loop-index.index c.index.result.now inside c.index.ensures _ _ _ (state_of c.loop-index.boot) c.loop-index.invariant.booted _ _ c.in-Ok-boot_line.ensures.did;
+      booted = goes_on (means_of (known c.args.plan.now) c.args.entropy) lines c.loop-index.index c.index.result.now inside c.index.ensures _ _ _ c.loop-index.boot c.loop-index.invariant.booted c.boot_line.new.boot _ c.in-Ok-boot_line.ensures.did;
       items = c.in-Ok-boot_line.ensures.items;
     }
 
@@ -48,4 +62,4 @@ pub returns-clause-booted : goal.returns-clause-booted
 returns-clause-booted g c =
     let lines = c.args.plan.now.lines.items in
     let all : length lines ≤ c.loop-index.index = omega (arith, c.args.plan.now.lines.ok, c.loop-index-test.false) in
-    ends c.args.plan.now.salt lines c.args.plan.now.numbers.items _ _ c.loop-index.boot c.loop-index.index all c.loop-index.invariant.booted
+    ends (means_of (known c.args.plan.now) c.args.entropy) lines c.args.plan.now.numbers.items _ _ c.loop-index.boot c.loop-index.index all c.loop-index.invariant.booted
