@@ -252,7 +252,7 @@ puts_held k secret uuid nonce text h a b now is d =
     }
 
 -- calls that all failed changed nothing
-none_answered : (honest : Bool) (own : List Made) (h k : Held) → heard_of own ≡ [] → ServesAll honest h own k → k ≡ h
+pub none_answered : (honest : Bool) (own : List Made) (h k : Held) → heard_of own ≡ [] → ServesAll honest h own k → k ≡ h
 none_answered honest [] h k heard s = s
 none_answered honest (m ∷ own) h k heard s = by_came m.came heard s.1 (λ rest. none_answered honest own s.0 k rest s.2) where
   by_came : (came : Option Said) → exchange_of m.call came ++ heard_of own ≡ [] → Serves honest h m.call m.given came s.0 → (heard_of own ≡ [] → k ≡ s.0) → k ≡ h
