@@ -92,7 +92,7 @@ when_is true p q e = (refl, e)
 when_is false p q e = absurd cc
 
 -- the answer to a read of sectors of a disk that is held
-read_is : (h : Held) (disk sector count : ℕ) (given : List ℕ) (d : Disk) (bytes : List ℕ) (k : Held) → h.disk disk ≡ Some d → serve h (BlockRead disk sector count) given ≡ Some (Bytes bytes, k)
+pub read_is : (h : Held) (disk sector count : ℕ) (given : List ℕ) (d : Disk) (bytes : List ℕ) (k : Held) → h.disk disk ≡ Some d → serve h (BlockRead disk sector count) given ≡ Some (Bytes bytes, k)
     → bytes ≡ take (512 * count) (drop (512 * sector) d.bytes)
 unfolding serve
 read_is h disk sector count given d bytes k is e =
