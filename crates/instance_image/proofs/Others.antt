@@ -202,7 +202,7 @@ put_right k secret uuid nonce text a b now r laid nonce_len d = record {
 
 -- ---- all records
 
-one_left : (x y : List Sealing) (z : Sealing) → IsOneOf x z → IsOneOf (x ++ y) z
+pub one_left : (x y : List Sealing) (z : Sealing) → IsOneOf x z → IsOneOf (x ++ y) z
 one_left [] y z i = absurd i
 one_left (w ∷ x) y z (inl e) = inl e
 one_left (w ∷ x) y z (inr i) = inr (one_left x y z i)
