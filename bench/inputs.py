@@ -1,7 +1,9 @@
 """Inputs for the programs: drawn bytes, reads, and tapes for the guest."""
 import os
 import random
+import struct
 import sys
+import uuid
 
 TOP = f"{os.path.dirname(os.path.abspath(__file__))}/.."
 
@@ -67,3 +69,48 @@ def session(files, *messages):
     for word, node, fields in messages:
         made.message(ask(word, node, **fields))
     return made
+
+
+def part_names(count):
+    """Names of so many partitions of an instance image."""
+    return [uuid.UUID(int=0xaa00 + at) for at in range(count)]
+
+
+def image_list(sectors):
+    """The list of an image: partitions of so many sectors each."""
+    return f"image 1\nsalt {bytes(64).hex()}\n{''.join(f'part {unique} {count}' + chr(10) for unique, count in zip(part_names(len(sectors)), sectors))}".encode()
+
+
+def image_plan():
+    """A plan with an instance line alone."""
+    return f"plan 1\nsecret {bytes(32).hex()}\nsalt {bytes(64).hex()}\ninstance 0 vm\n".encode()
+
+
+def framed(channel, payload):
+    return struct.pack("<IBxxx", len(payload), channel) + payload
+
+
+def got(unique):
+    """The frame of a get."""
+    return framed(2, unique.bytes)
+
+
+def put(unique, text):
+    """The frame of a put."""
+    return framed(3, unique.bytes + text)
+
+
+def coded(channel, code, data=b""):
+    """The frame of a reply."""
+    return framed(channel, struct.pack("<I", code) + data)
+
+
+def calls_told(tape):
+    """The records of a tape: the size of each answer in bytes, None where it is none."""
+    at, out = len(TAPE), []
+    while at < len(tape):
+        kind = tape[at]
+        size = struct.unpack_from("<I", tape, at + 1)[0] if kind == 3 else None
+        out.append(size)
+        at += {0: 1, 1: 1, 2: 9, 3: 5 + (size or 0)}[kind]
+    return out

@@ -237,6 +237,7 @@ pub fn answer_frame<H: Host>(
         0 => answer_message(engine, host, payload),
         1 => answer_read(engine, host, payload),
         2 => answer_get(alloc, engine, host, payload),
-        _ => answer_put(alloc, engine, host, payload),
+        3 => answer_put(alloc, engine, host, payload),
+        _ => unreachable!(),
     }
 }

@@ -70,9 +70,12 @@ fn serve<F: Folder, S: Source, K: Sink, L: Sink>(
 /// end line to the log; a fault of that makes the status 6.
 ///
 /// The contract is the promise of the whole product. Of the bytes that came, each frame that was answered is a turn of one run
-/// of the machine, in every world whose contents have the plan's measures and in which no two different inputs share a digest:
-/// a read's bytes are the content's slice, or its reply is a refusal by the rules or a fault that the host's own answers to
-/// that read caused. The replies and the lines of the log are those of these turns and nothing else.
+/// of the machine, in every world whose contents have the plan's measures, in which no two different inputs share a digest, and in
+/// which no sealed form was heard in a turn but those of the texts that were sealed before it (`AreSealed`): a read's bytes are
+/// the content's slice, and the text that a get is answered with is one of those, of its UUID; or the reply is a refusal by the
+/// rules, a fault that the host's own answers to that request caused, or want of memory. A put handed the host the record, sealed
+/// under entropy that no other put takes, and nothing else, and the kept size changed only where its write was answered. The
+/// replies and the lines of the log are those of these turns and nothing else.
 pub fn guest<F: Folder, S: Source, K: Sink, L: Sink>(
     alloc: Global,
     words: &[String],

@@ -175,7 +175,7 @@ module _ (plan : Known) (h : Held) (world : World) (booted : Exchanges) (new : B
       let mid : Moment = run.0 in
       let step : Step g world old turn mid = run.2 in
       let kept = files_kept g world old.sealings (trace old turn mid) (request_of turn.frame) old.state mid.state turn.sent turn.cause step.row in
-      (λ asks. turn_none g old turn mid items same (request_of turn.frame) refl asks step.row run.3 run.4, run_none g turns mid end items (kept ∙ same) run.9)
+      (λ asks. turn_none g old turn mid items same (request_of turn.frame) refl asks step.row run.3 run.4, run_none g turns mid end items (kept ∙ same) run.5)
 
 pub causes_none : HonestHostsCauseNone
 causes_none files plan store entropy old new ended s turns world r w sealed fits stay =

@@ -1,10 +1,8 @@
 -- A record that stands, stands after each turn but a put into its UUID that is answered with 0.
-use Rattle.std.proofs.Common.{◌≡◌, ◌≢◌, ◌∙◌, ℕ, Bool, List, [], ◌∷◌, ◌++◌, ◌≤◌, length, Option, Some, None, Result, Ok, Err, refl, ap, sym, subst, arith}
+use Rattle.std.proofs.Common.{◌≡◌, ◌≢◌, ◌∙◌, ℕ, List, [], ◌≤◌, length, Option, Some, Result, Ok, Err, refl, ap, sym, subst, arith}
 use Rattle.std.proofs.lemmas.List.{length-take}
-use Rattle.host_traits.specs.declared.calls.Call.{Call}
-use Rattle.host_traits.specs.declared.calls.Said.{Said}
 use Rattle.host_traits.specs.Held.{Held}
-use Rattle.host_traits.specs.Told.{Made, Serves, ServesAll, HeldAfter, exchange_of, heard_of}
+use Rattle.host_traits.specs.Told.{HeldAfter, heard_of}
 use Rattle.session_frames.specs.Replies.{Sent, sent_code}
 use Rattle.verity_path.specs.declared.device.Cause.{Cause}
 use Rattle.instance_image.specs.declared.faults.PutFault.{PutFault}
@@ -14,6 +12,7 @@ use Rattle.instance_image.specs.Access.{PutOutcome, payload_size}
 use Rattle.instance_image.specs.Promised.{PutStands, PutLeaves}
 use Rattle.instance_image.specs.Sealings.{Sealing}
 use Rattle.instance_image.proofs.Others.{others_kept, put_right}
+use Rattle.instance_image.proofs.Promises.{none_answered}
 use Rattle.guest_rules.specs.Machine.{Instance, Setting, State, World, Moment, Turn, Request, request_of, message_of, read_of, get_of, put_of, unbuilt, image_with}
 use Rattle.guest_rules.specs.RecordRow.{PutRow, no_image, refused, no_entropy, put, put_code, nonce_of}
 use Rattle.guest_rules.specs.Step.{Step, Row, trace}
@@ -22,16 +21,6 @@ use Rattle.guest_laws.proofs.Gets.{same_instance, no_instance}
 use Rattle.guest_laws.proofs.Laid.{IsImageLaid, fault_keeps}
 use Rattle.guest_laws.proofs.Puts.{did, laid_in}
 use Rattle.guest_laws.proofs.Staying.{step_keeps}
-
-quiet_one : (honest : Bool) (call : Call) (given : List ℕ) (came : Option Said) (own : List Made) (h mid k : Held) → exchange_of call came ++ heard_of own ≡ [] → Serves honest h call given came mid
-    → (heard_of own ≡ [] → k ≡ mid) → k ≡ h
-quiet_one honest call given None own h mid k none s later = later none ∙ s.0
-quiet_one honest call given (Some said) own h mid k none s later = absurd (omega (arith, ap length none))
-
--- calls of which none was answered change nothing that is held
-quiet_keeps : (honest : Bool) (own : List Made) (h k : Held) → heard_of own ≡ [] → ServesAll honest h own k → k ≡ h
-quiet_keeps honest [] h k none s = s
-quiet_keeps honest (m ∷ own) h k none s = quiet_one honest m.call m.given m.came own h s.0 k none s.1 (λ rest. quiet_keeps honest own s.0 k rest s.2)
 
 -- the same parts, and the same held
 module _ (i : Instance) (uuid : List ℕ) (z : Sealing) (old new : Moment) (r : RecordStands i uuid z old) where
@@ -82,7 +71,7 @@ module _ (g : Setting) (world : World) (old : Moment) (turn : Turn) (new : Momen
   quiet_held : heard_of turn.own ≡ [] → new.told.held ≡ Some r.held
   quiet_held none =
       let after = subst (λ (o : Option Held). HeldAfter old.told.honest o turn.own new.told.held) r.held_is step.talked.held in
-      after.1 ∙ ap (λ (h : Held). Some h) (quiet_keeps old.told.honest turn.own r.held after.0 none after.2)
+      after.1 ∙ ap (λ (h : Held). Some h) (none_answered old.told.honest turn.own r.held after.0 none after.2)
 
   by_row : (sent : Sent) (cause : Option Cause) → PutRow g.image (trace old turn new) uuid text old.state new.state sent cause → turn.sent ≡ sent → RecordStands i other z new
   by_row sent cause (no_image none quiet same) e = absurd (no_instance i (sym image ∙ none))

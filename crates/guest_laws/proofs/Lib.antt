@@ -15,8 +15,11 @@ pub mod Gets
 pub mod Laid
 pub mod Puts
 pub mod Kept
+pub mod Keeping
+pub mod Seals
 pub mod Sat
 mod Example
+mod ExampleImage
 pub mod Causes
 pub mod Lies
 pub mod Naming

@@ -14,7 +14,7 @@ use Rattle.instance_image.specs.Promised.{MayBeWritten, PutOrMemory}
 use Rattle.instance_image.specs.Access.{PutOutcome, IsPutting, payload_size, sealing_of}
 use Rattle.instance_image.specs.Staying.{resized_part}
 use Rattle.instance_image.proofs.Accesses.{fits_found}
-use Rattle.instance_image.proofs.Others.{sizes_kept, put_right}
+use Rattle.instance_image.proofs.Others.{sizes_kept, right}
 use Rattle.instance_image.proofs.Promises.{DidPut, puts_held, puts_hold}
 use Rattle.guest_rules.specs.Machine.{Instance, Setting, World, Moment, Turn, Request, request_of, put_of, image_with}
 use Rattle.guest_rules.specs.RecordRow.{PutRow, no_image, refused, no_entropy, put, put_code, put_cause, nonce_of, IsForPut}
@@ -102,12 +102,11 @@ put_defined (Err why) is = subst (λ (f : PutFault). IsPutDefined (sent_code 3 (
 
 module _ (g : Setting) (world : World) (old : Moment) (turn : Turn) (new : Moment) (step : Step g world old turn new) (honest : old.told.honest ≡ true) (i : Instance) (uuid text : List ℕ) (p : Part) (now : Held)
     (request : request_of turn.frame ≡ put_of uuid text) (image : g.image ≡ Some i) (fits : fits_in old.state.parts uuid (length text) ≡ Ok p) (some : 12 ≤ length old.state.entropy) (told : old.told.held ≡ Some now)
-    (may : MayBeWritten now (image_with i old.state.parts) p) (laid : IsLaid (image_with i old.state.parts)) where
+    (may : MayBeWritten now (image_with i old.state.parts) p) where
   made : (r : Result (Unit {0}) PutFault) → PutOutcome (image_with i old.state.parts) uuid text (image_with i new.state.parts) r (trace old turn new) → PutOrMemory r
   made r outcome =
-      let nonce_len : length (nonce_of old.state) ≡ 12 = omega (arith, some, length-take 12 old.state.entropy) in
-      let d = did g world old turn new step i uuid text request image r outcome in
-      (put_right (image_with i old.state.parts) i.secret uuid (nonce_of old.state) text old.told new.told (image_with i new.state.parts) r laid nonce_len d).right now p (inr honest) told fits may
+      right (image_with i old.state.parts) i.secret uuid (nonce_of old.state) text now p fits may old.told new.told (image_with i new.state.parts) r told (inr honest)
+      (did g world old turn new step i uuid text request image r outcome)
 
   row_served : (sent : Sent) (cause : Option Cause) → PutRow g.image (trace old turn new) uuid text old.state new.state sent cause → IsPutDefined sent cause
   row_served sent cause (no_image none quiet same) = absurd (no_instance i (sym image ∙ none))
@@ -123,10 +122,8 @@ module _ (g : Setting) (world : World) (old : Moment) (turn : Turn) (new : Momen
 pub laid_in : (image : Option Instance) (i : Instance) (parts : List Part) → image ≡ Some i → IsImageLaid image parts → IsLaid (image_with i parts)
 laid_in image i parts e l = subst (λ (o : Option Instance). IsImageLaid o parts) e l
 
-pub put_served : (Imaged : Type 0) (g : Setting) (world : World) (old : Moment) (turn : Turn) (new : Moment) → Step g world old turn new → old.told.honest ≡ true → (Imaged → IsImageLaid g.image old.state.parts)
-    → IsPutServed Imaged g old turn
-put_served Imaged g world old turn new step honest laid imaged i uuid text p now request image fits some told may =
-    is_served g world old turn new step honest i uuid text p now request image fits some told may (laid_in g.image i old.state.parts image (laid imaged))
+pub put_served : (g : Setting) (world : World) (old : Moment) (turn : Turn) (new : Moment) → Step g world old turn new → old.told.honest ≡ true → IsPutServed g old turn
+put_served g world old turn new step honest i uuid text p now request image fits some told may = is_served g world old turn new step honest i uuid text p now request image fits some told may
 
 pub put_kept : (g : Setting) (world : World) (old : Moment) (turn : Turn) (new : Moment) → Step g world old turn new → IsPutKept g old turn new
 put_kept g world old turn new step i uuid text now request image uuid_len told sent = is_kept g world old turn new step i uuid text request image now uuid_len told sent

@@ -1,5 +1,5 @@
 -- A session over an honest host that holds what the plan's lines need.
-use Rattle.std.proofs.Common.{◌≡◌, ◌+◌, ◌*◌, ◌∙◌, ℕ, zero, suc, Bool, true, List, [], ◌∷◌, ◌++◌, length, ◌<◌, ◌≤◌, Option, Some, None, refl, ap, sym, subst, inl, inr, arith}
+use Rattle.std.proofs.Common.{◌≡◌, ◌+◌, ◌*◌, ◌∙◌, ℕ, zero, suc, Bool, true, List, [], ◌∷◌, ◌++◌, length, ◌<◌, ◌≤◌, Option, Some, refl, ap, sym, subst, inl, inr, arith}
 use Rattle.std.specs.Prelude.{slice_get}
 use Rattle.mg_base.specs.declared.values.Digest.{Digest}
 use Rattle.std.proofs.lemmas.List.{length-append}
@@ -7,7 +7,7 @@ use Rattle.host_traits.specs.declared.calls.Call.{Call}
 use Rattle.host_traits.specs.declared.calls.TapeItem.{TapeItem}
 use Rattle.host_traits.specs.Held.{Held}
 use Rattle.host_traits.specs.Told.{Told, Exchanges, Made, heard_of, failures_of}
-use Rattle.host_traits.specs.Did.{IsIn, trace_of}
+use Rattle.host_traits.specs.Did.{trace_of}
 use Rattle.sha_tree.specs.declared.measure.Measure.{Measure}
 use Rattle.sha_tree.specs.Tree.{page, pages_at, top}
 use Rattle.sha_tree.specs.Measured.{IsMeasured}
@@ -21,12 +21,7 @@ use Rattle.fuse_server.proofs.Keeping.{aim_file}
 use Rattle.guest_plan.specs.Plans.{Known}
 use Rattle.guest_plan.specs.declared.plan.PlanLine.{PlanLine}
 use Rattle.guest_plan.specs.declared.plan.PlanLine.TheVariants as line
-use Rattle.guest_boot.specs.Booting.{AreServed, Booted, Boots, PlanBoots, LineBoots, InstanceLine, InstanceBoots, instance_in, device_on, before_lines}
-use Rattle.guest_boot.proofs.Instances.{stands}
-use Rattle.guest_boot.proofs.Plans.{stays as images_stay}
-use Rattle.instance_image.specs.Records.{Kept, IsLaid}
-use Rattle.instance_image.specs.Opening.{opening, IsOpened}
-use Rattle.mg_base.specs.declared.values.Span.{Span}
+use Rattle.guest_boot.specs.Booting.{AreServed, Booted, Boots, PlanBoots, LineBoots, device_on, before_lines}
 use Rattle.guest_boot.proofs.Makes.{device_is_item}
 use Rattle.guest_rules.specs.Machine.{Instance, Setting, State, World, Salted, Moment, Turn, IsItem, request_of, moment}
 use Rattle.guest_rules.specs.Step.{Step, trace}
@@ -35,23 +30,16 @@ use Rattle.guest_rules.specs.Faithful.{HoldsDevice, HoldsContent, IsDefined, IsR
 use Rattle.guest_rules.proofs.Serving.{all_served, files_served}
 use Rattle.guest_rules.proofs.Standing.{run_heard, world_first, world_at, known_by, files_kept, opened_at}
 use Rattle.guest_plan.proofs.Whole.{plan_takes}
-use Rattle.guest_cli.specs.Works.{instance_of, parts_of}
-use Rattle.guest_cli.specs.Booted.{Opened, Opens, records_of, BootsOver, setting_of, first_state}
+use Rattle.guest_cli.specs.Booted.{Opened, BootsOver, setting_of, first_state}
 use Rattle.guest_cli.specs.Serve.{before, Recorded}
 use Rattle.guest_cli.proofs.Opening.{opened_first}
 use Rattle.guest_boot.proofs.Plans.{plan_served}
-use Rattle.guest_laws.specs.Fitting.{FitsInstance, FitsItem, HoldsReadOnly, item_line}
+use Rattle.guest_laws.specs.Fitting.{FitsItem, HoldsReadOnly, item_line}
 use Rattle.guest_laws.specs.Sessions.{AreUnwritten, LiesApart, StaysHeld, RunServed, SessionsAreServed, BootsAreServed}
 use Rattle.guest_laws.proofs.Asking.{AreHeld, boot_held, not_failed}
 use Rattle.guest_laws.proofs.Boots.{lines_call, fault_passes}
-use Rattle.guest_laws.proofs.Fits.{in_left}
 use Rattle.guest_laws.proofs.Items.{served_line}
 use Rattle.guest_laws.proofs.Lines.{same_line, get_last, keeps}
-use Rattle.guest_laws.proofs.Gets.{get_served}
-use Rattle.guest_laws.proofs.Kept.{record_kept}
-use Rattle.guest_laws.proofs.Puts.{put_kept, put_served}
-use Rattle.guest_laws.proofs.Laid.{IsImageLaid, row_laid, opened_laid, span_ends}
-use Rattle.guest_laws.proofs.Images.{span_is}
 use Rattle.guest_laws.proofs.Served.{apk_kept}
 use Rattle.guest_laws.proofs.Staying.{IsSameBut, same_self, same_on, step_keeps, step_same, file_stays, parts_stay}
 
@@ -168,10 +156,10 @@ module _ (g : Setting) (world : World) (plan : Known) (h : Held) (all : List Tur
       )
 
   run_served : (turns : List Turn) (old new : Moment) (now : Held) → Run g world old turns new → old.told.held ≡ Some now → IsNow now turns
-      → (FitsInstance plan h → IsImageLaid g.image old.state.parts) → old.told.honest ≡ true → AreOpened old.state old.heard
+      → old.told.honest ≡ true → AreOpened old.state old.heard
       → IsWorld g old.state world new.heard → old.told.scarce ≡ true → RunServed plan h (StaysHeld g all) g world old turns new
-  run_served [] old new now run told at laid honest opened w scarce = run
-  run_served (turn ∷ turns) old new now run told at laid honest opened w scarce =
+  run_served [] old new now run told at honest opened w scarce = run
+  run_served (turn ∷ turns) old new now run told at honest opened w scarce =
       let mid : Moment = run.0 in
       let step : Step g world old turn mid = run.2 in
       let later = run_heard g world mid turns new run.3 in
@@ -197,46 +185,9 @@ module _ (g : Setting) (world : World) (plan : Known) (h : Held) (all : List Tur
             let held = file_stays g.image h now at.same f.file f.size f.measure c.content (content_held h f digest c (known.files there.0 f c there.1 is) holds) in
             let served = (files_served g world old turn mid now m there.0 f offset size c step request aim there.1 is opened here told held (inr honest)).0 in
             subst (λ (b : Bool). IsReadDefined (number_of m) offset size c.content b turn.sent turn.cause) wants served,
-        get_served g world old turn mid step honest,
-        put_served (FitsInstance plan h) g world old turn mid step honest laid,
-        put_kept g world old turn mid step,
-        record_kept (FitsInstance plan h) g world old turn mid step laid,
-        run_served turns mid new next.0 run.3 next.1 next.2
-            (λ imaged. row_laid g world old.sealings (trace old turn mid) (request_of turn.frame) old.state mid.state turn.sent turn.cause step.row (laid imaged)) (step.talked.honest ∙ honest)
+        run_served turns mid new next.0 run.3 next.1 next.2 (step.talked.honest ∙ honest)
             (opened_at old.state mid.state old.heard mid.heard (heard_of turn.own) same step.heard opened) (world_at g old.state mid.state world new.heard same w) wants,
       )
-
--- ---- the image after boot
-
-image_is : (a b : Kept) → Some a ≡ Some b → a ≡ b
-image_is a b e = cc
-
-with_secret : (image : Option Kept) (secret : Option (List ℕ)) → ((k : Kept) → image ≡ Some k → IsLaid k) → IsImageLaid (instance_of (records_of image secret)) (parts_of (records_of image secret))
-with_secret None secret laid = tt
-with_secret (Some k) None laid = tt
-with_secret (Some k) (Some secret) laid = laid k refl
-
-no_kept : (k : Kept) → None ≡ Some k → ⊥
-no_kept k e = cc
-
-made_laid : (plan : Known) (h : Held) (own : Exchanges) (i : Option InstanceLine) (tables : _) (image : Option Kept) → instance_in plan.lines ≡ i → AreHeld h own → FitsInstance plan h
-    → (salt : Option (List ℕ)) → plan.salt ≡ salt → InstanceBoots i salt own tables image → (k : Kept) → image ≡ Some k → IsLaid k
-made_laid plan h own None tables image is heard imaged salt salted b k e = absurd (no_kept k (sym b.2 ∙ e))
-made_laid plan h own (Some i) tables image is heard imaged None salted b k e = absurd b
-made_laid plan h own (Some i) tables image is heard imaged (Some salt) salted b k e =
-    let holds = imaged i.at i.disk i.part salt (stands plan.lines i is) salted in
-    let span = span_is h i.disk i.part salt holds own heard b.2.first b.2.rest b.2.cut tables b.2.span b.2.found in
-    let opened : IsOpened (opening i.disk holds.span salt) b.2.rest b.0 = subst (λ (s : Span). IsOpened (opening i.disk s salt) b.2.rest b.0) span b.2.opened in
-    let same : b.0 ≡ k = image_is b.0 k (sym b.1 ∙ e) in
-    subst IsLaid same (opened_laid (opening i.disk holds.span salt) (span_ends h i.disk i.part salt holds) b.2.rest b.0 opened)
-
-first_laid : (plan : Known) (h : Held) (own : Exchanges) (o : Opened) → Opens plan own o → AreHeld h own → FitsInstance plan h
-    → IsImageLaid (setting_of plan o).image (parts_of (records_of o.image plan.secret))
-first_laid plan h own o opens heard imaged =
-    let b = opens.boots in
-    let same : o.image ≡ b.image = images_stay (before_lines b.tables b.image) plan.lines b.rest _ b.others in
-    let front : AreHeld h b.first = λ call said i. heard call said (subst (IsIn call said) (sym b.cut) (in_left b.first b.rest call said i)) in
-    with_secret o.image plan.secret (λ k e. made_laid plan h b.first (instance_in plan.lines) b.tables b.image refl front imaged plan.salt refl b.before k (sym same ∙ e))
 
 module _ (plan : Known) (h : Held) (mid : Told) (booted : List Made) (o : Opened) (entropy : List ℕ) (calls : List Call) (records : List TapeItem) (finish : Told) (turns : List Turn) (world : World) where
   abbrev g : Setting
@@ -259,7 +210,7 @@ module _ (plan : Known) (h : Held) (mid : Told) (booted : List Made) (o : Opened
       let kept : (k : ℕ) (l : PlanLine) → item_line plan.lines k ≡ Some l → FitsItem h (world.item k) l → IsKept g.image h world o.items l k = λ k l at fits.
       line_kept g.image plan.salt plan.lines h world (heard_of booted) served made opens.boots boot.1 w.items l k at fits in
       run_served g world plan h turns kept turns (moment first mid (heard_of booted) []) (moment r.state finish all r.sealed) h (r.run world w sealed) mid_held
-      (record { same = same_self g.image h; quiet = λ unwritten. (refl, unwritten) }) (λ imaged. first_laid plan h (heard_of booted) o opens boot.1 imaged) over.talked.honest there w over.talked.scarce
+      (record { same = same_self g.image h; quiet = λ unwritten. (refl, unwritten) }) over.talked.honest there w over.talked.scarce
 
 pub sessions_served : SessionsAreServed
 sessions_served files plan store entropy old new ended s turns world r w sealed =

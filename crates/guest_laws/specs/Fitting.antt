@@ -2,7 +2,7 @@
 use Rattle.std.specs.Prelude.{◌≡◌, ◌⊎◌, ◌+◌, ◌-◌, ◌*◌, ◌^◌, ◌<◌, ◌≤◌, ℕ, All, Bool, true, false, List, [], length, take, drop, filter, slice_get, Option, Some, Ok}
 use Rattle.mg_base.specs.declared.values.Span.{Span}
 use Rattle.host_traits.specs.declared.calls.Call.{Call}
-use Rattle.host_traits.specs.declared.calls.Call.TheVariants.{BlockSize, BlockRead}
+use Rattle.host_traits.specs.declared.calls.Call.TheVariants.{BlockSize, BlockRead, BlockWrite, BlockSync, FileRead, TreeRead, Descriptor, FileWrite, TreeWrite, Resize, Create, Mkdir, Delete}
 use Rattle.host_traits.specs.declared.calls.Said.{Said}
 use Rattle.host_traits.specs.Did.{IsIn}
 use Rattle.host_traits.specs.Held.{Held, Disk, serve}
@@ -89,7 +89,10 @@ pub record HoldsReadOnly (h : Held) (number : ℕ) (digest : Digest) (content sa
 abbrev pub makes_item : PlanLine → Bool
 makes_item (line.Blob file m) = true
 makes_item (line.Apk disk apk idsig how) = true
-makes_item other = false
+makes_item (line.Instance disk part) = false
+makes_item (line.File name file digest) = false
+makes_item (line.Write name file) = false
+makes_item (line.WriteDir name file) = false
 
 abbrev pub item_line : List PlanLine → ℕ → Option PlanLine
 item_line lines k = slice_get (filter makes_item lines) k
@@ -118,7 +121,10 @@ pub record FitsFile (h : Held) (content : Option Salted) (number : ℕ) (digest 
 abbrev pub FitsItem : Held → Option (List ℕ) → PlanLine → Type 0
 FitsItem h content (line.Blob file m) = FitsBlob h content file m
 FitsItem h content (line.Apk disk apk idsig how) = FitsApk h content disk apk idsig how
-FitsItem h content other = ⊥
+FitsItem h content (line.Instance disk part) = ⊥
+FitsItem h content (line.File name file digest) = ⊥
+FitsItem h content (line.Write name file) = ⊥
+FitsItem h content (line.WriteDir name file) = ⊥
 
 -- what is held has an image of the plan's salt at its instance line, where it has one
 abbrev pub FitsInstance : Known → Held → Type 0
@@ -134,11 +140,21 @@ pub record Fits (plan : Known) (world : World) (h : Held) : Type 0 where
 
 -- ---- what was heard of it
 
--- a call asks for this disk
+-- a call asks for this disk: how large it is, or for its bytes
 abbrev pub IsOfDisk : ℕ → Call → Type 0
 IsOfDisk disk (BlockSize of) = of ≡ disk
 IsOfDisk disk (BlockRead of sector count) = of ≡ disk
-IsOfDisk disk other = ⊥
+IsOfDisk disk (BlockWrite of sector count) = ⊥
+IsOfDisk disk (BlockSync of) = ⊥
+IsOfDisk disk (FileRead file at want) = ⊥
+IsOfDisk disk (TreeRead file level index) = ⊥
+IsOfDisk disk (Descriptor file) = ⊥
+IsOfDisk disk (FileWrite file at count) = ⊥
+IsOfDisk disk (TreeWrite file level index) = ⊥
+IsOfDisk disk (Resize file size) = ⊥
+IsOfDisk disk (Create dir file) = ⊥
+IsOfDisk disk (Mkdir dir file) = ⊥
+IsOfDisk disk (Delete dir) = ⊥
 
 -- each of these answers for the disk is what is held
 abbrev pub AreTrue : Held → ℕ → Exchanges → Type 0

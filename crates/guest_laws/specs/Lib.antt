@@ -1,5 +1,6 @@
 pub mod Fitting
 pub mod Sessions
+pub mod Seals
 pub mod Passing
 pub mod Lies
 pub mod Naming

@@ -18,7 +18,7 @@ use Rattle.guest_plan.specs.Plans.{Known}
 use Rattle.guest_plan.specs.declared.plan.PlanLine.{PlanLine}
 use Rattle.guest_plan.specs.declared.plan.PlanLine.TheVariants as line
 use Rattle.guest_boot.specs.declared.faults.BootFault.{BootFault}
-use Rattle.guest_rules.specs.Machine.{Instance, Setting, World, Moment, moment, Turn, ItemRead, Request, message_of, read_of, get_of, put_of, unbuilt, request_of, image_with}
+use Rattle.guest_rules.specs.Machine.{Instance, Setting, World, nowhere, Moment, moment, Turn, ItemRead, Request, message_of, read_of, get_of, put_of, unbuilt, request_of, image_with}
 use Rattle.guest_rules.specs.Step.{Step}
 use Rattle.guest_rules.specs.Run.{IsEarly, IsWorld, AreSealed, calls_of}
 use Rattle.guest_rules.specs.Faithful.{IsDefined, IsReadDefined}
@@ -121,21 +121,26 @@ pub data IsPutDefined : Sent → Option Cause → Type 0 where
   written : IsPutDefined (sent_code 3 0) None
   out_of_memory : IsPutDefined (sent_code 3 12) None
 
--- Where an image was held at boot: a turn with a put of a text that fits, while entropy is left, into a partition whose sectors may
--- be written then, has its defined reply.
-abbrev pub IsPutServed : Type 0 → Setting → Moment → Turn → Type 0
-IsPutServed Imaged g old turn = Imaged → (i : Instance) (uuid text : List ℕ) (p : Part) (now : Held)
+-- a turn with a put of a text that fits, while entropy is left, into a partition whose sectors may be written then, has its
+-- defined reply
+abbrev pub IsPutServed : Setting → Moment → Turn → Type 0
+IsPutServed g old turn = (i : Instance) (uuid text : List ℕ) (p : Part) (now : Held)
     → request_of turn.frame ≡ put_of uuid text → g.image ≡ Some i → fits_in old.state.parts uuid (length text) ≡ Ok p
     → 12 ≤ length old.state.entropy → old.told.held ≡ Some now → MayBeWritten now (image_with i old.state.parts) p
     → IsPutDefined turn.sent turn.cause
 
--- a run of which each step is such, with its reads, gets and puts served, and its records kept
+-- a run with each read of its turns served
 abbrev pub RunServed : Known → Held → (PlanLine → Type 0) → Setting → World → Moment → List Turn → Moment → Type 0
 RunServed plan h Stays g world old [] new = old ≡ new
 RunServed plan h Stays g world old (turn ∷ turns) new = (mid : Moment) × IsEarly old.told.heard × Step g world old turn mid
-    × IsItemServed plan.lines world h Stays turn × IsFileServed plan.lines world h old turn × IsGetServed g old turn
-    × IsPutServed (FitsInstance plan h) g old turn × IsPutKept g old turn mid
-    × IsRecordKept (FitsInstance plan h) g old turn mid × RunServed plan h Stays g world mid turns new
+    × IsItemServed plan.lines world h Stays turn × IsFileServed plan.lines world h old turn × RunServed plan h Stays g world mid turns new
+
+-- a run, in the world without contents, with each get and each put of its turns served, and its records kept
+abbrev pub RunKept : Type 0 → Setting → Moment → List Turn → Moment → Type 0
+RunKept Imaged g old [] new = old ≡ new
+RunKept Imaged g old (turn ∷ turns) new = (mid : Moment) × IsEarly old.told.heard × Step g nowhere old turn mid
+    × IsGetServed g old turn × IsPutServed g old turn × IsPutKept g old turn mid × IsRecordKept Imaged g old turn mid
+    × RunKept Imaged g mid turns new
 
 -- Over the host that a store list makes, where it holds what each line of the plan needs, boot doesn't end with a fault of a line:
 -- status 8 doesn't come.
@@ -146,10 +151,8 @@ BootsAreServed = (files : Option Files) (plan store entropy : List ℕ) (fault :
 -- A session of `serve`, over the host that a store list makes, whose turns these are. It is a run in which each read of an item, and
 -- each READ of a file, that the host holds at first as its line needs it has its defined reply: its bytes, or 22 where too many were
 -- asked for, or want of memory, and no cause. Of an item on the instance image's disk that is said of a session whose turns write
--- nothing to the host. Each get of a record that stands has its text, or want of memory, and a put that is answered with 0 has put
--- its record. Where the host holds at first what the instance line needs, each put that may be made is answered with 0, or with want
--- of memory, and a record stands until the next put into its UUID. What the host holds for other lines is no premise, nor is which
--- calls fail: the host is honest, and of such a request none does.
+-- nothing to the host. What the host holds for other lines is no premise, nor is which calls fail: the host is honest, and of such
+-- a request none does.
 abbrev pub SessionsAreServed : Type 0
 SessionsAreServed = (files : Option Files) (plan store entropy : List ℕ) (old new : Streams) (ended : Result (Unit {0}) SessionEnd)
     (s : SatOver files plan store entropy old new ended) (turns : List Turn) (world : World)
@@ -158,6 +161,17 @@ SessionsAreServed = (files : Option Files) (plan store entropy : List ℕ) (old 
     → AreSealed (setting_of s.made.planned.plan s.opened) world (moment (first_state s.made.planned.plan s.opened s.bytes) s.mid (heard_of s.booted) []) turns
     (moment r.state s.finish (heard_of s.booted ++ heard_of (calls_of turns)) r.sealed) r.plain
     → RunServed s.made.planned.plan s.made.stock.held (StaysHeld (setting_of s.made.planned.plan s.opened) turns) (setting_of s.made.planned.plan s.opened) world
+    (moment (first_state s.made.planned.plan s.opened s.bytes) s.mid (heard_of s.booted) []) turns
+    (moment r.state s.finish (heard_of s.booted ++ heard_of (calls_of turns)) r.sealed)
+
+-- In such a session each get of a record that stands has its text, or want of memory; each put that may be made is answered with 0,
+-- or with want of memory, and one that is answered with 0 has put its record. Where the host holds at first what the instance line
+-- needs, a record stands until the next put into its UUID. Nothing is asked of digests or of seals: the host holds what it answers.
+abbrev pub RecordsAreServed : Type 0
+RecordsAreServed = (files : Option Files) (plan store entropy : List ℕ) (old new : Streams) (ended : Result (Unit {0}) SessionEnd)
+    (s : SatOver files plan store entropy old new ended) (turns : List Turn)
+    → (r : Recorded (setting_of s.made.planned.plan s.opened) (first_state s.made.planned.plan s.opened s.bytes) s.booted s.mid s.calls s.records s.finish turns)
+    → RunKept (FitsInstance s.made.planned.plan s.made.stock.held) (setting_of s.made.planned.plan s.opened)
     (moment (first_state s.made.planned.plan s.opened s.bytes) s.mid (heard_of s.booted) []) turns
     (moment r.state s.finish (heard_of s.booted ++ heard_of (calls_of turns)) r.sealed)
 

@@ -3,7 +3,8 @@ ghost use Rattle.guest_laws.specs.Fitting.{ApkReadsAreServed};
 ghost use Rattle.guest_laws.specs.Passing.{BootsPass};
 ghost use Rattle.guest_laws.specs.Naming.{NamesStay};
 ghost use Rattle.guest_laws.specs.Lies.{ItemMismatchesLie, ReadMismatchesLie};
-ghost use Rattle.guest_laws.specs.Sessions.{BootsAreServed, SessionsAreServed, HonestHostsCauseNone};
+ghost use Rattle.guest_laws.specs.Seals.{HonestHostsForgeNone, GetsCauseNone};
+ghost use Rattle.guest_laws.specs.Sessions.{BootsAreServed, SessionsAreServed, RecordsAreServed, HonestHostsCauseNone};
 
 /// Over a host that holds what each line of the plan needs, and is honest or of whose calls none failed, boot opens all lines, or
 /// there was no memory; and what is held stays. Its contract is the law; it does nothing.
@@ -25,11 +26,27 @@ pub fn boots_are_served()
 {}
 
 /// A session of `serve` over the host that a store list makes, in a world that meets the premises: each read of an item or a file
-/// that the host holds as its line needs it has its defined reply, and each get of a record that stands its text, or want of memory,
-/// and none has a cause; of an item on the instance image's disk that is so where no record is written. A put that is answered with
-/// 0 has put its record, and it stands until the next such put into its UUID. Its contract is the law; it does nothing.
+/// that the host holds as its line needs it has its defined reply, and no cause; of an item on the instance image's disk that is so
+/// where no record is written. Its contract is the law; it does nothing.
 pub fn sessions_are_served()
     ensures { SessionsAreServed }
+{}
+
+/// A session of `serve` over the host that a store list makes: each get of a record that stands has its text, or want of memory, and
+/// each put that may be made is answered with 0, or want of memory; neither has a cause. A put that is answered with 0 has put its
+/// record, and where the host holds at first what the instance line needs it stands until the next such put into its UUID. Its
+/// contract is the law; it does nothing.
+pub fn records_are_served()
+    ensures { RecordsAreServed }
+{}
+
+/// A session of `serve` over the host that a store list makes, where it holds at first what the instance line needs, and each record
+/// of the image is one of those that were sealed before the run. `seals`: where no request reads other sectors of a disk, it hears no
+/// sealed form but theirs and those that it has put, and so meets the premise on seals. `gets`: no get of it has a cause. Its contract
+/// is the law; it does nothing.
+pub fn honest_hosts_forge_none()
+    ensures seals { HonestHostsForgeNone }
+    ensures gets { GetsCauseNone }
 {}
 
 /// A session of `serve` over the host that a store list makes, where it holds what each line of the plan needs, and what it holds

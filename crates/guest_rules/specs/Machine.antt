@@ -77,13 +77,14 @@ opcode_in payload = from_le_bytes w32 (take 4 (drop 4 payload))
 abbrev pub is_unbuilt : ℕ → List ℕ → Bool
 is_unbuilt channel payload = (channel == 0) && (nat_le 27 (opcode_in payload) && nat_le (opcode_in payload) 29)
 
--- the request of a frame of a channel: a UUID has 16 bytes, and the text of a put follows it
+-- the request of a frame of a channel: a UUID has 16 bytes, and the text of a put follows it. There is no fifth channel.
 abbrev pub request_on : ℕ → List ℕ → Request
 request_on channel payload =
     if channel == 0 then message_of (decoded payload)
     else if channel == 1 then read_of (item_read payload)
     else if channel == 2 then get_of payload
-    else put_of (take 16 payload) (drop 16 payload)
+    else if channel == 3 then put_of (take 16 payload) (drop 16 payload)
+    else unbuilt
 
 -- the request of a frame, where it is served
 abbrev pub request_of : Framed → Request

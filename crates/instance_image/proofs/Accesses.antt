@@ -23,7 +23,7 @@ pub answer_of : (salt secret uuid : List ℕ) (p : Part) (bytes : List ℕ) (r :
     → Unsealed (record_key salt secret uuid) (header_in bytes) salt (payload_in p bytes) r → AnswerOutcome salt secret uuid p bytes r
 answer_of salt secret uuid p bytes (Ok text) is u = record { is_record = is; sealed = u }
 answer_of salt secret uuid p bytes (Err (gets.Tag tag)) is u = record { is_record = is; computed = u.computed; found = u.found; differ = u.differ; nothing = u.nothing }
-answer_of salt secret uuid p bytes (Err gets.Memory) is u = is
+answer_of salt secret uuid p bytes (Err gets.Memory) is u = absurd u
 answer_of salt secret uuid p bytes (Err gets.NoRecord) is u = absurd u
 answer_of salt secret uuid p bytes (Err (gets.Failed faults)) is u = absurd u
 answer_of salt secret uuid p bytes (Err (gets.Short asked got)) is u = absurd u
@@ -47,7 +47,7 @@ get_outcome k secret uuid t (Err (gets.Failed faults)) a = absurd a.makes
 get_outcome k secret uuid t (Err (gets.Short asked got)) a = (a, short_get k secret uuid t asked got a)
 get_outcome k secret uuid t (Err (gets.Changed sector)) a = a
 get_outcome k secret uuid t (Err (gets.Tag tag)) a = a
-get_outcome k secret uuid t (Err gets.Memory) a = inr a
+get_outcome k secret uuid t (Err gets.Memory) a = absurd a.makes
 
 -- the one read was answered
 pub get_heard : (k : Kept) (secret uuid : List ℕ) (p : Part) (count : ℕ) (raw : List ℕ) (r : Result (List ℕ) GetFault) (old new : Told)
@@ -68,12 +68,18 @@ get_failed k secret uuid p count faults old new found least most is a same =
     let for : IsGetCall k uuid (get_call k p) = record { part = p; has = record { found = found; least = least; most = most }; call_is = refl } in
     did_refused (IsGetCall k uuid) (get_call k p) old new (GetOutcome k secret uuid (Err (gets.Failed faults))) for b (refl, is_failed (IsGetCall k uuid) (get_call k p) [] old new [] faults for b same)
 
--- there was no memory for it
+-- the host had no memory for it
 pub get_unheard : (k : Kept) (secret uuid : List ℕ) (p : Part) (old new : Told) → find_part k.parts uuid ≡ Some p → 28 ≤ p.size → p.size ≤ 65564
     → Unheard old new → Did (IsGetCall k uuid) 1 old new (GetOutcome k secret uuid (Err gets.Memory))
 get_unheard k secret uuid p old new found least most u =
     did_unheard (IsGetCall k uuid) 1 old new (GetOutcome k secret uuid (Err gets.Memory)) u
-    (inl (record { part = p; has = record { found = found; least = least; most = most }; own = refl; scarce = record { failed = refl; scarce = u.scarce } }))
+    (record { part = p; has = record { found = found; least = least; most = most }; own = refl; failed = refl })
+
+-- there was no memory for its text
+pub get_roomless : (k : Kept) (secret uuid : List ℕ) (p : Part) (a : Told) → find_part k.parts uuid ≡ Some p → 28 ≤ p.size → p.size ≤ 65564
+    → Did (IsGetCall k uuid) 1 a a (GetOutcome k secret uuid (Err gets.Memory))
+get_roomless k secret uuid p a found least most =
+    did_none (IsGetCall k uuid) 1 a (GetOutcome k secret uuid (Err gets.Memory)) (record { part = p; has = record { found = found; least = least; most = most }; own = refl; failed = refl })
 
 -- no partition has this UUID, or it is empty
 pub get_none : (k : Kept) (secret uuid : List ℕ) (a : Told) → HasNone k uuid → Did (IsGetCall k uuid) 1 a a (GetOutcome k secret uuid (Err gets.NoRecord))

@@ -10,3 +10,4 @@ pub mod Found
 pub mod Laying
 pub mod Others
 pub mod Swapping
+pub mod Hearing

@@ -170,7 +170,7 @@ module _ (k : Kept) (secret uuid nonce text : List ℕ) (h : Held) (p : Part) (f
     by_came (Some said) one = refl
   one_unfailed (m ∷ n ∷ own) after few each s = absurd (omega (arith, few))
 
-  right : (a b : Told) (now : Kept) (r : Result (Unit {0}) PutFault) → a.held ≡ Some h → Calm a b → DidPut k secret uuid nonce text a b now r → PutOrMemory r
+  pub right : (a b : Told) (now : Kept) (r : Result (Unit {0}) PutFault) → a.held ≡ Some h → Calm a b → DidPut k secret uuid nonce text a b now r → PutOrMemory r
   right a b now (Ok x) is calm d = tt
   right a b now (Err puts.Memory) is calm d = refl
   right a b now (Err puts.NoRecord) is calm d = absurd (ok_err puts.NoRecord (sym fits ∙ d.outcome.3)) where
@@ -202,7 +202,7 @@ put_right k secret uuid nonce text a b now r laid nonce_len d = record {
 
 -- ---- all records
 
-one_left : (x y : List Sealing) (z : Sealing) → IsOneOf x z → IsOneOf (x ++ y) z
+pub one_left : (x y : List Sealing) (z : Sealing) → IsOneOf x z → IsOneOf (x ++ y) z
 one_left [] y z i = absurd i
 one_left (w ∷ x) y z (inl e) = inl e
 one_left (w ∷ x) y z (inr i) = inr (one_left x y z i)

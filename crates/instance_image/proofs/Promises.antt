@@ -92,7 +92,7 @@ when_is true p q e = (refl, e)
 when_is false p q e = absurd cc
 
 -- the answer to a read of sectors of a disk that is held
-read_is : (h : Held) (disk sector count : ℕ) (given : List ℕ) (d : Disk) (bytes : List ℕ) (k : Held) → h.disk disk ≡ Some d → serve h (BlockRead disk sector count) given ≡ Some (Bytes bytes, k)
+pub read_is : (h : Held) (disk sector count : ℕ) (given : List ℕ) (d : Disk) (bytes : List ℕ) (k : Held) → h.disk disk ≡ Some d → serve h (BlockRead disk sector count) given ≡ Some (Bytes bytes, k)
     → bytes ≡ take (512 * count) (drop (512 * sector) d.bytes)
 unfolding serve
 read_is h disk sector count given d bytes k is e =
@@ -252,7 +252,7 @@ puts_held k secret uuid nonce text h a b now is d =
     }
 
 -- calls that all failed changed nothing
-none_answered : (honest : Bool) (own : List Made) (h k : Held) → heard_of own ≡ [] → ServesAll honest h own k → k ≡ h
+pub none_answered : (honest : Bool) (own : List Made) (h k : Held) → heard_of own ≡ [] → ServesAll honest h own k → k ≡ h
 none_answered honest [] h k heard s = s
 none_answered honest (m ∷ own) h k heard s = by_came m.came heard s.1 (λ rest. none_answered honest own s.0 k rest s.2) where
   by_came : (came : Option Said) → exchange_of m.call came ++ heard_of own ≡ [] → Serves honest h m.call m.given came s.0 → (heard_of own ≡ [] → k ≡ s.0) → k ≡ h

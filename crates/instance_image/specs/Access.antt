@@ -5,7 +5,7 @@ use Rattle.host_traits.specs.declared.calls.Call.{Call}
 use Rattle.host_traits.specs.declared.calls.Call.TheVariants.{BlockRead, BlockWrite}
 use Rattle.host_traits.specs.declared.calls.Said.{Said}
 use Rattle.host_traits.specs.declared.calls.Said.TheVariants.{Bytes, Done}
-use Rattle.host_traits.specs.Did.{Trace, IsShort, IsFailed, IsScarce}
+use Rattle.host_traits.specs.Did.{Trace, IsShort, IsFailed}
 use Rattle.sealed_record.specs.Sealed.{IsSealed, tag_for, tag_in}
 use Rattle.instance_image.specs.declared.faults.GetFault.{GetFault}
 use Rattle.instance_image.specs.declared.faults.GetFault.TheVariants as gets
@@ -75,7 +75,7 @@ AnswerOutcome salt secret uuid p bytes (Err (gets.Failed faults)) = ⊥
 AnswerOutcome salt secret uuid p bytes (Err (gets.Short asked got)) = IsCut p bytes asked got
 AnswerOutcome salt secret uuid p bytes (Err (gets.Changed sector)) = IsChanged uuid p bytes sector
 AnswerOutcome salt secret uuid p bytes (Err (gets.Tag tag)) = IsForged salt secret uuid p bytes tag
-AnswerOutcome salt secret uuid p bytes (Err gets.Memory) = IsRecord uuid p bytes
+AnswerOutcome salt secret uuid p bytes (Err gets.Memory) = ⊥
 
 -- the one call was answered, and this is what its answer makes
 pub record IsAnswered (k : Kept) (secret uuid : List ℕ) (t : Trace) (result : Result (List ℕ) GetFault) : Type 0 where
@@ -90,20 +90,19 @@ pub record IsAnswered (k : Kept) (secret uuid : List ℕ) (t : Trace) (result : 
 abbrev pub HasNone : Kept → List ℕ → Type 0
 HasNone k uuid = (size_of (find_part k.parts uuid) ≡ None) ⊎ (size_of (find_part k.parts uuid) ≡ Some 0)
 
--- there is a record, and the host had no memory for the call
+-- there is a record, and no call was told: memory was wanting for its text, or at the host for the call
 pub record IsUnheard (k : Kept) (uuid : List ℕ) (t : Trace) : Type 0 where
   pub part : Part
   pub has : HasRecord k uuid part
   pub own : t.own ≡ []
-  pub scarce : IsScarce t
+  pub failed : t.failed ≡ 0
 
--- What came of reading a record. Memory is wanting at the host, or for the text of an answer that breaks no rule but perhaps the
--- last one.
+-- What came of reading a record. Out of memory no answer was heard, so whatever is wrong with one is told.
 abbrev pub GetOutcome : Kept → List ℕ → List ℕ → Result (List ℕ) GetFault → Trace → Type 0
 GetOutcome k secret uuid (Err gets.NoRecord) t = (t.own ≡ []) × (t.failed ≡ 0) × HasNone k uuid
 GetOutcome k secret uuid (Err (gets.Failed faults)) t = (t.own ≡ []) × IsFailed (IsGetCall k uuid) t faults
 GetOutcome k secret uuid (Err (gets.Short asked got)) t = IsAnswered k secret uuid t (Err (gets.Short asked got)) × IsShort t asked got
-GetOutcome k secret uuid (Err gets.Memory) t = IsUnheard k uuid t ⊎ IsAnswered k secret uuid t (Err gets.Memory)
+GetOutcome k secret uuid (Err gets.Memory) t = IsUnheard k uuid t
 GetOutcome k secret uuid result t = IsAnswered k secret uuid t result
 
 -- ---- put

@@ -1,10 +1,12 @@
--- What a put changes of the kept sizes, and what stays of all records of an image.
-use Rattle.std.specs.Prelude.{◌≡◌, ◌≢◌, ◌⊎◌, ℕ, List, [], ◌∷◌, ◌++◌, length, Option, Some, None}
+-- What a put changes of the kept sizes, and what stays of all records of an image; what a get hears of them.
+use Rattle.std.specs.Prelude.{◌≡◌, ◌≢◌, ◌⊎◌, ◌≤◌, ℕ, Bool, List, [], ◌∷◌, ◌++◌, length, Option, Some, None}
 use Rattle.host_traits.specs.Held.{Held}
+use Rattle.host_traits.specs.Told.{Made, ServesAll, heard_of}
+use Rattle.host_traits.specs.Did.{Each, reads}
 use Rattle.instance_image.specs.declared.values.Part.{Part}
 use Rattle.instance_image.specs.Records.{Kept, find_part, keep_size}
-use Rattle.instance_image.specs.Sealings.{Sealing, IsOneOf}
-use Rattle.instance_image.specs.Access.{IsPutInto, payload_size, sealing_of}
+use Rattle.instance_image.specs.Sealings.{Sealing, IsOneOf, OnlySealed}
+use Rattle.instance_image.specs.Access.{IsGetCall, IsPutInto, payload_size, sealing_of}
 use Rattle.instance_image.specs.Opening.{Opening}
 use Rattle.instance_image.specs.Grammar.{Slot}
 use Rattle.instance_image.specs.Imaged.{HoldsImage, image_of}
@@ -50,6 +52,12 @@ abbrev pub PutsKeepRecords : Type 0
 PutsKeepRecords = (k : Kept) (secret uuid nonce text : List ℕ) (sealings : List Sealing) (h : Held) (new : Option Held) →
     PutStands k secret uuid nonce text h new → HoldsRecords h k secret sealings →
     HoldsAfter k secret uuid nonce text sealings new
+
+-- A get over a host that holds the records of an image, each of some sealings, hears no sealed form but theirs.
+abbrev pub GetsHearSealed : Type 0
+GetsHearSealed = (k : Kept) (secret uuid : List ℕ) (sealings : List Sealing) (h after : Held) (honest : Bool) (own : List Made) →
+    HoldsRecords h k secret sealings → length own ≤ 1 → Each (reads (IsGetCall k uuid)) own → ServesAll honest h own after →
+    OnlySealed k.salt secret sealings (heard_of own)
 
 -- ---- the image
 

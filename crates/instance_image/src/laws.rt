@@ -1,6 +1,6 @@
 // What reads and writes of records come to.
 ghost use Rattle.instance_image.specs.Promised.{TextsWereSealed};
-ghost use Rattle.instance_image.specs.Staying.{SizesAreKept, OthersAreKept, PutsKeepRecords, PutsKeepImages, PutsKeepWritable};
+ghost use Rattle.instance_image.specs.Staying.{SizesAreKept, OthersAreKept, PutsKeepRecords, GetsHearSealed, PutsKeepImages, PutsKeepWritable};
 
 /// Where no sealed form is heard but those of some sealings, a text that is got is one of theirs, with
 /// that UUID. Its contract is the law; it does nothing.
@@ -18,4 +18,10 @@ pub fn records_stay()
     ensures all { PutsKeepRecords }
     ensures image { PutsKeepImages }
     ensures writable { PutsKeepWritable }
+{}
+
+/// A get over a host that holds the records of an image, each of some sealings, hears no sealed form
+/// but theirs. Its contract is the law; it does nothing.
+pub fn gets_hear_sealed()
+    ensures { GetsHearSealed }
 {}

@@ -11,7 +11,7 @@ mod values;
 mod writing;
 
 pub use faults::{GetFault, ImageFault, PutFault};
-pub use laws::{records_stay, texts_were_sealed};
+pub use laws::{gets_hear_sealed, records_stay, texts_were_sealed};
 pub use opening::open_image;
 pub use values::{Image, Part};
 

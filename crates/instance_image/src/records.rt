@@ -1,5 +1,5 @@
 // Reading and writing the records of an image.
-ghost use Rattle.std.specs.Prelude.{◌≡◌, ◌⊎◌, ◌+◌, ◌-◌, ◌*◌, ◌/◌, ◌<◌, ◌≤◌, ◌^◌, ◌++◌, length, take, [], None, Some, Ok, Err, IfOk, vec_len, Result};
+ghost use Rattle.std.specs.Prelude.{◌≡◌, ◌⊎◌, ◌+◌, ◌-◌, ◌*◌, ◌/◌, ◌<◌, ◌≤◌, ◌^◌, ◌++◌, length, take, [], None, Some, Ok, Err, IfOk, vec_len, vec_capacity, Result};
 ghost use Rattle.host_traits.specs.Did.{Did, DidBy};
 ghost use Rattle.instance_image.specs.Records.{header_in, find_part, size_of, fits, fits_in, keep_size, room_of, is_large, sectors_of, header_of, zeros, IsLaid};
 ghost use Rattle.instance_image.specs.Sealings.{record_key};
@@ -83,7 +83,7 @@ fn payload_in<'a>(bytes: &'a [u8], part: &Part) -> &'a [u8]
 
 // The text of a record, by its header and its payload.
 fn opened(
-    alloc: Global,
+    room: Vec<u8>,
     secret: &[u8; 32],
     salt: &[u8; 64],
     uuid: &Guid,
@@ -92,14 +92,11 @@ fn opened(
 ) -> Result<OpenedText, GetFault>
     requires least { 28 ≤ length payload.now }
     requires most { length payload.now ≤ 65564 }
+    requires space { length payload.now ≤ vec_capacity room }
     ensures { Unsealed (record_key salt.now secret.now uuid.now.0) header.now salt.now
         payload.now result }
 {
-    let sealed = match SealedText::parse(alloc, payload) {
-        Ok(Some(sealed)) => sealed,
-        Ok(None) => unreachable!(),
-        Err(Memory) => return Err(GetFault::Memory),
-    };
+    let sealed = SealedText::in_room(room, payload);
     let key = record_key(secret, salt, uuid);
     match open_record(&key, header, salt, sealed) {
         Ok(text) => Ok(text),
@@ -107,9 +104,9 @@ fn opened(
     }
 }
 
-// The text of a record, by the answer to its read.
+// The text of a record, by the answer to its read, in room for its payload.
 fn text_of(
-    alloc: Global,
+    room: Vec<u8>,
     secret: &[u8; 32],
     salt: &[u8; 64],
     uuid: &Guid,
@@ -118,6 +115,7 @@ fn text_of(
 ) -> Result<OpenedText, GetFault>
     requires least { 28 ≤ part.now.size }
     requires most { part.now.size ≤ 65564 }
+    requires space { part.now.size ≤ vec_capacity room }
     requires few { length bytes.now ≤ 512 * (1 + sectors_of part.now.size) }
     ensures { AnswerOutcome salt.now secret.now uuid.now.0 part.now bytes.now result }
 {
@@ -132,7 +130,7 @@ fn text_of(
             sector: part.sector,
         });
     }
-    opened(alloc, secret, salt, uuid, &header, payload_in(bytes, part))
+    opened(room, secret, salt, uuid, &header, payload_in(bytes, part))
 }
 
 // How many bytes of text a partition takes.
@@ -232,7 +230,7 @@ impl Image {
         }
     }
 
-    // Asks for a record, and opens it.
+    // Takes room for a record's payload, asks for the record, and opens it.
     fn read_record<H: Host>(
         &self,
         alloc: Global,
@@ -250,6 +248,10 @@ impl Image {
         if part.size == 0 {
             return Err(GetFault::NoRecord);
         }
+        let room = match Vec::with_capacity(alloc, part.size as usize) {
+            Ok(room) => room,
+            Err(_) => return Err(GetFault::Memory),
+        };
         let count = 1 + sectors_of(part.size);
         match host.block_read(self.disk, self.first + part.sector, count as u32, raw) {
             Ok(()) => {}
@@ -259,12 +261,12 @@ impl Image {
             }
             Err(HostError::Memory) => return Err(GetFault::Memory),
         }
-        text_of(alloc, secret, &self.salt, uuid, part, raw.layout())
+        text_of(room, secret, &self.salt, uuid, part, raw.layout())
     }
 
     /// The text of a record. `NoRecord` comes exactly where no partition has the UUID, or its kept
-    /// size is 0, and then nothing is asked. Else it makes one read, of the header and the payload's
-    /// sectors.
+    /// size is 0, and then nothing is asked. Else it takes its memory, and makes one read, of the
+    /// header and the payload's sectors: out of memory no answer was heard.
     pub fn get<H: Host>(
         &self,
         alloc: Global,

@@ -91,7 +91,8 @@ impl Image {
         requires size { 1 + taken parts.now ≤ 2 ^ 21 }
         requires named { AreNamed parts.now }
         requires apart { AreApart (empty_slots parts.now) }
-        ensures text { OnOk result (out.new.items ≡ out.old.items ++ image_bytes salt.now parts.now) }
+        ensures text { OnOk result (out.new.items ≡ out.old.items
+            ++ image_bytes salt.now parts.now) }
         // These bytes, and so many sectors of zeros behind them, are an image of these partitions.
         ensures image { OnOk result ((more : ℕ) → IsImage (1 + taken parts.now + more) salt.now
             (empty_slots parts.now) (image_bytes salt.now parts.now ++ zeros (512 * more))) }

@@ -139,6 +139,19 @@ impl SealedText {
         Ok(Some(SealedText { bytes }))
     }
 
+    /// These bytes, from 28 to 65,564, as a sealed text, in room that was taken before: it takes no
+    /// memory. What stood in the room is gone.
+    pub fn in_room(mut room: Vec<u8>, bytes: &[u8]) -> SealedText
+        requires least { 28 ≤ length bytes.now }
+        requires most { length bytes.now ≤ 65564 }
+        requires space { length bytes.now ≤ vec_capacity room }
+        ensures { result ≡ bytes.now }
+    {
+        room.clear();
+        add(bytes, &mut room);
+        SealedText { bytes: room }
+    }
+
     /// The bytes.
     pub fn bytes(&self) -> &[u8]
         ensures value { result.now ≡ self.now }

@@ -5,7 +5,7 @@ use Rattle.instance_image.specs.declared.values.Part.{Part}
 use Rattle.instance_image.specs.Records.{Kept, find_part, IsPartAt}
 use Rattle.instance_image.specs.Access.{IsGetCall, GetOutcome, AnswerOutcome}
 use Rattle.instance_image.proofs.Partitions.{found_is}
-use Rattle.instance_image.proofs.Accesses.{get_heard, get_failed, get_unheard}
+use Rattle.instance_image.proofs.Accesses.{get_heard, get_failed, get_unheard, get_roomless}
 use Rattle.instance_image.proofs.values.Image.read_record.Goals as goal
 
 pub sectors_of-count-requires : goal.sectors_of-count-requires
@@ -42,7 +42,7 @@ returns g c =
     let most : p.size ≤ 65564 = elim lies.payload [ inl none ↦ absurd (c.if-part-eq0.false none) | inr some ↦ some.most ] in
     let makes : AnswerOutcome k.salt c.args.secret.now c.args.uuid.now.0 p c.block_read.new.raw c.text_of.result = rw c.layout.ensures at c.text_of.ensures in
     subst (λ (x : Kept). Did (IsGetCall x c.args.uuid.now.0) 1 (g.H.Host.told c.args.host.now) (g.H.Host.told c.block_read.new.self) (GetOutcome x c.args.secret.now c.args.uuid.now.0 c.text_of.result)) c.self.view_is
-    (get_heard k c.args.secret.now c.args.uuid.now.0 p _ c.block_read.new.raw c.text_of.result _ _ found least most (ap (λ (n : ℕ). 1 + n) c.sectors_of-count.ensures.value) c.in-Ok.ensures.asked makes)
+    (get_heard k c.args.secret.now c.args.uuid.now.0 p _ c.block_read.new.raw c.text_of.result _ _ found least most (ap (λ (n : ℕ). 1 + n) c.sectors_of-count.ensures.value) c.in-Ok-block_read.ensures.asked makes)
 
 pub returns-in-Err-Failed : goal.returns-in-Err-Failed
 returns-in-Err-Failed g c =
@@ -65,3 +65,14 @@ returns-in-Err-Memory g c =
     let most : p.size ≤ 65564 = elim lies.payload [ inl none ↦ absurd (c.if-part-eq0.false none) | inr some ↦ some.most ] in
     subst (λ (x : Kept). Did (IsGetCall x c.args.uuid.now.0) 1 (g.H.Host.told c.args.host.now) (g.H.Host.told c.block_read.new.self) (GetOutcome x c.args.secret.now c.args.uuid.now.0 (Err gets.Memory))) c.self.view_is
     (get_unheard k c.args.secret.now c.args.uuid.now.0 p _ _ found least most (rw c.in-Err-Memory.field-0-is at c.in-Err-Memory.ensures.asked))
+
+pub returns-in-Err : goal.returns-in-Err
+returns-in-Err g c =
+    let p : Part = c.in-Some.part.now in
+    let k : Kept = record { disk = c.self.inside.disk; first = c.self.inside.first; salt = c.self.inside.salt; parts = c.self.inside.parts.items } in
+    let found : find_part k.parts c.args.uuid.now.0 ≡ Some p = rw c.as_slice.ensures.value at c.in-Some.ensures in
+    let lies : IsPartAt k.first p = found_is (IsPartAt k.first) k.parts c.args.uuid.now.0 p c.self.invariant.kept found in
+    let least : 28 ≤ p.size = elim lies.payload [ inl none ↦ absurd (c.if-part-eq0.false none) | inr some ↦ some.least ] in
+    let most : p.size ≤ 65564 = elim lies.payload [ inl none ↦ absurd (c.if-part-eq0.false none) | inr some ↦ some.most ] in
+    subst (λ (x : Kept). Did (IsGetCall x c.args.uuid.now.0) 1 (g.H.Host.told c.args.host.now) (g.H.Host.told c.args.host.now) (GetOutcome x c.args.secret.now c.args.uuid.now.0 (Err gets.Memory))) c.self.view_is
+    (get_roomless k c.args.secret.now c.args.uuid.now.0 p _ found least most)
