@@ -2,7 +2,6 @@
 #![tactic(auto)]
 
 mod bodies;
-mod listing;
 mod names;
 mod numbers;
 mod opcode;
@@ -12,7 +11,6 @@ mod request;
 mod room;
 mod writing;
 
-pub use crate::listing::Listing;
 pub use crate::reading::decode;
 pub use crate::reply::{Attr, EntryOut, FuseReply, InitOut};
 pub use crate::request::{BadMessage, Body, Request};

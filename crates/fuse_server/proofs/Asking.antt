@@ -26,7 +26,7 @@ few_body (flush fh) body w = tt
 few_body (fsync fh) body w = tt
 few_body (release fh) body w = tt
 few_body (releasedir fh) body w = tt
-few_body (readdir fh offset size) body w = tt
+few_body (readdir fh offset size) body w = w.2.few
 few_body (create name) body w = tt
 few_body (mkdir name) body w = tt
 few_body (unlink name) body w = tt
@@ -47,7 +47,8 @@ few_none (Ok (deed.Attr x)) w = tt
 few_none (Ok (deed.Opened handle)) w = tt
 few_none (Ok deed.Statfs) w = tt
 few_none (Ok (deed.Init x)) w = tt
-few_none (Ok (deed.Read f offset size)) w = absurd w
+few_none (Ok (deed.Names listing)) w = tt
+few_none (Ok (deed.Read r)) w = absurd w
 
 pub few_by : (asked : Asked) (d : Result Deed Errno) → ReadsBy asked d → ReadsFew d
 few_by (init a b c e) d w = few_none d w
@@ -82,7 +83,8 @@ answers_none (Ok (deed.Attr x)) a w same = same
 answers_none (Ok (deed.Opened handle)) a w same = same
 answers_none (Ok deed.Statfs) a w same = same
 answers_none (Ok (deed.Init x)) a w same = same
-answers_none (Ok (deed.Read f offset size)) a w same = absurd w
+answers_none (Ok (deed.Names listing)) a w same = same
+answers_none (Ok (deed.Read r)) a w same = absurd w
 
 other_by : (s : State) (node : ℕ) (asked : Asked) (d : Result Deed Errno) (a : Answer) (new : State) → NoRead d → Answers d a → Becomes s node asked (answer_to d) new → Becomes s node asked a new
 other_by s node asked d a new none says w = subst (λ (x : Answer). Becomes s node asked x new) (sym (answers_none d a none says)) w

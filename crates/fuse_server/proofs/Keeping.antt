@@ -1,5 +1,5 @@
 -- No message changes the files, and a READ that is let through is of one of them.
-use Rattle.std.proofs.Common.{◌≡◌, ◌%◌, if◌then◌else◌, ℕ, Bool, true, false, not, List, Option, Some, None, Result, Ok, Err, refl}
+use Rattle.std.proofs.Common.{◌≡◌, ◌%◌, if◌then◌else◌, ℕ, Bool, true, false, not, Option, Some, None, Result, Ok, Err, refl}
 use Rattle.std.specs.Prelude.{◌==◌}
 use Rattle.mg_base.specs.declared.errno.Errno.{Errno}
 use Rattle.mg_base.specs.declared.errno.Errno.TheVariants.{Eacces, Enospc, Enosys, Eproto}
@@ -11,8 +11,8 @@ use Rattle.authfs_files.specs.Open.{may_open}
 use Rattle.fuse_codec.specs.Message.{Asked, init, lookup, forget, batch_forget, interrupt, getattr, setattr, opening, opendir, read, write, flush, fsync, release, releasedir, readdir, create, mkdir, unlink, rmdir, statfs, destroy, Message, Bad, quiet, bad_length, bad_opcode, bad_sizes}
 use Rattle.fuse_codec.specs.Reply as reply
 use Rattle.fuse_codec.specs.Reply.{Answer}
-use Rattle.fuse_server.specs.State.{State, Files, file_at, as_file, attr_of, live, live_file, held}
-use Rattle.fuse_server.specs.Aims.{Aim, says, makes, reads, is_old, init_aim, lookup_aim, getattr_aim, setattr_aim, size_refusal, asks_size, open_aim, read_aim, write_aim, handled_aim, add_aim, remove_aim, statfs_aim, ready_aim, message_aim, aim_of}
+use Rattle.fuse_server.specs.State.{State, Files, file_at, as_file, attr_of, live, live_file, live_dir, held}
+use Rattle.fuse_server.specs.Aims.{Aim, says, makes, reads, is_old, init_aim, lookup_aim, getattr_aim, setattr_aim, size_refusal, asks_size, open_aim, opendir_aim, read_aim, write_aim, handled_aim, releasedir_aim, readdir_aim, add_aim, remove_aim, statfs_aim, ready_aim, message_aim, aim_of}
 use Rattle.fuse_server.specs.Effects.{Change, nothing, initialises, counts, forgets, forgets_all, opens, closes, destroys, change_of, Changed, UnlessRefused, counted}
 use Rattle.fuse_server.specs.Serving.{FilesStay}
 
@@ -102,14 +102,14 @@ module _ (s : State) where
   init_of a b c e = bind_of s.files (needs (not s.ready) Eproto) _ (λ u f. bind_of s.files (needs (not (is_old a b)) Eproto) _ (λ v g. tt))
 
   ready_of : (n : ℕ) (asked : Asked) → OfFiles s.files (ready_aim s n asked)
-  unfolding ready_aim lookup_aim setattr_aim open_aim read_aim write_aim handled_aim add_aim remove_aim statfs_aim
+  unfolding ready_aim lookup_aim setattr_aim open_aim opendir_aim read_aim write_aim handled_aim releasedir_aim readdir_aim add_aim remove_aim statfs_aim
   ready_of n (init a b c e) = init_of a b c e
   ready_of n (forget k) = tt
   ready_of n (batch_forget pairs) = tt
   ready_of n interrupt = tt
-  ready_of n opendir = tt
-  ready_of n (releasedir fh) = tt
-  ready_of n (readdir fh offset size) = tt
+  ready_of n opendir = bind_of s.files (live_dir s n) _ (λ u e. bind_of s.files (needs (may_open s.open_handles s.given) Enospc) _ (λ v g. tt))
+  ready_of n (releasedir fh) = bind_of s.files (live_dir s n) _ (λ u e. bind_of s.files (held s fh n) _ (λ v g. tt))
+  ready_of n (readdir fh offset size) = bind_of s.files (live_dir s n) _ (λ u e. bind_of s.files (held s fh n) _ (λ v g. tt))
   ready_of n (lookup name) = bind_of s.files (lookup_check s.names.nodes n name) _
       (λ node e. bind_of s.files (live s node) _ (λ kind f. bind_of s.files (attr_of s.files node kind) _ (λ attr g. tt)))
   ready_of n getattr = getattr_of n

@@ -1,9 +1,10 @@
--- A handle that is held.
-use Rattle.std.proofs.Common.{◌≡◌, ℕ, Bool, true, false, Option, Some, None, Ok, refl, IsSome}
+-- A handle that is held, and a live directory.
+use Rattle.std.proofs.Common.{◌≡◌, ℕ, Bool, true, false, Option, Some, None, Ok, refl, IsSome, IsTrue}
 use Rattle.authfs_files.specs.Open.{node_of, is_of, holds}
-use Rattle.mg_base.specs.declared.errno.Errno.TheVariants.{Ebadf}
-use Rattle.authfs_dirs.specs.Names.{needs}
-use Rattle.fuse_server.specs.State.{State, held}
+use Rattle.mg_base.specs.declared.errno.Errno.TheVariants.{Enoent, Enotdir, Ebadf}
+use Rattle.authfs_dirs.specs.declared.kind.Kind.{Kind}
+use Rattle.authfs_dirs.specs.Names.{◌>>=◌, needs, found, is_dir, kind_at, is_live_dir}
+use Rattle.fuse_server.specs.State.{State, live_dir, held}
 
 some_of : (o : Option ℕ) (node : ℕ) → is_of o node ≡ true → IsSome o
 some_of None node e = absurd cc
@@ -16,3 +17,15 @@ held_open s fh node e = some_of (node_of fh s.open_handles) node (by (is_of (nod
   by : (b : Bool) → needs b Ebadf ≡ Ok tt → b ≡ true
   by true e = refl
   by false e = absurd cc
+
+dir_if : (kind : Kind) (b : Bool) → is_dir kind ≡ b → needs b Enotdir ≡ Ok tt → IsTrue (is_dir kind)
+dir_if kind true is e = is
+dir_if kind false is e = absurd cc
+
+dir_by : (o : Option Kind) → (found o Enoent >>= λ kind. needs (is_dir kind) Enotdir) ≡ Ok tt → IsTrue (is_live_dir o)
+dir_by None e = absurd cc
+dir_by (Some kind) e = dir_if kind (is_dir kind) refl e
+
+-- what passes the check of a directory is a live one
+pub dir_live : (s : State) (node : ℕ) → live_dir s node ≡ Ok tt → IsTrue (is_live_dir (kind_at s.names node))
+dir_live s node e = dir_by (kind_at s.names node) e

@@ -16,15 +16,15 @@ use Rattle.fuse_server.specs.State.{State}
 use Rattle.fuse_server.specs.Aims.{Aim, says, makes, reads, aim_of}
 use Rattle.fuse_server.specs.declared.deed.Deed.{Deed}
 use Rattle.fuse_server.specs.declared.deed.Deed.TheVariants as deed
+use Rattle.fuse_server.specs.declared.deed.Reading.{Reading}
 use Rattle.fuse_server.specs.Deeds.{IsDeed, Refuses, answer_to}
 use Rattle.verity_path.specs.declared.device.Cause.{Cause}
 use Rattle.verity_path.specs.Range.{most_answers}
-use Rattle.ro_file.specs.Files.{MeasuredFile}
 use Rattle.fuse_server.specs.Rows.{IsPlain, IsFileRead, ReadRow, FuseRow, IsForFuse, most_for_fuse, answer_by}
 
 -- it is no read
 abbrev pub IsDone : Result Deed Errno → Type 0
-IsDone (Ok (deed.Read f offset size)) = ⊥
+IsDone (Ok (deed.Read r)) = ⊥
 IsDone other = Unit {0}
 
 plain_row : (a : Answer) (x : Told) → IsPlain (trace_of [] 0 x x) a a None
@@ -51,7 +51,8 @@ row_of aim (Ok (deed.Attr y)) x done w = said_row aim _ x w
 row_of aim (Ok (deed.Opened handle)) x done w = made_row aim _ x w
 row_of aim (Ok deed.Statfs) x done w = said_row aim _ x w
 row_of aim (Ok (deed.Init y)) x done w = said_row aim _ x w
-row_of aim (Ok (deed.Read f offset size)) x done w = absurd done
+row_of aim (Ok (deed.Names listing)) x done w = made_row aim _ x w
+row_of aim (Ok (deed.Read r)) x done w = absurd done
 
 plain_did : (aim : Result Aim Errno) (d : Result Deed Errno) (x : Told) (answer : Answer) → IsDone d → answer ≡ answer_to d → IsDeed aim d
     → Did (IsForFuse aim) (most_for_fuse aim) x x (λ t. FuseRow aim t answer None)
@@ -62,11 +63,11 @@ pub plain_at : (aim : Result Aim Errno) (d e : Result Deed Errno) (x : Told) (an
 plain_at aim d e x answer c same done is none w = rw none (plain_did aim e x answer done is (rw same at w))
 
 -- the read that a message aims at
-pub read_did : (aim : Result Aim Errno) (d : Result Deed Errno) (f : MeasuredFile) (offset size : ℕ) (a b : Told) (answer : Answer) (c : Option Cause) → d ≡ Ok (deed.Read f offset size) → IsDeed aim d
-    → Did (IsFileRead f offset size) (most_answers f.measure f.size offset size) a b (λ t. ReadRow f offset size t answer c)
+pub read_did : (aim : Result Aim Errno) (d : Result Deed Errno) (r : Reading) (a b : Told) (answer : Answer) (c : Option Cause) → d ≡ Ok (deed.Read r) → IsDeed aim d
+    → Did (IsFileRead r.file r.offset r.size) (most_answers r.file.measure r.file.size r.offset r.size) a b (λ t. ReadRow r.file r.offset r.size t answer c)
     → Did (IsForFuse aim) (most_for_fuse aim) a b (λ t. FuseRow aim t answer c)
-read_did aim d f offset size a b answer c e w did = aimed aim (rw e at w) where
-  aimed : (aim : Result Aim Errno) → aim ≡ Ok (reads f offset size) → Did (IsForFuse aim) (most_for_fuse aim) a b (λ t. FuseRow aim t answer c)
+read_did aim d r a b answer c e w did = aimed aim (rw e at w) where
+  aimed : (aim : Result Aim Errno) → aim ≡ Ok (reads r.file r.offset r.size) → Did (IsForFuse aim) (most_for_fuse aim) a b (λ t. FuseRow aim t answer c)
   aimed aim e = rw e did
 
 bad_row : (s : State) (bad : BadMessage) (x : Told) (bytes : List ℕ) → Did (IsForFuse (aim_of s (Err (bad_of bad)))) (most_for_fuse (aim_of s (Err (bad_of bad)))) x x (λ t. FuseRow (aim_of s (Err (bad_of bad))) t (answer_by (bad_answer bad).reply bytes) (bad_answer bad).cause)

@@ -8,16 +8,16 @@ use Rattle.std.specs.Ordering.{nat_cmp, eq_by_cmp}
 use Rattle.std.specs.Cmp.{nat_cmp_total}
 use Rattle.std.specs.FinMap as map
 use Rattle.mg_base.specs.declared.errno.Errno.{Errno}
-use Rattle.mg_base.specs.declared.errno.Errno.TheVariants.{Enoent, Eacces, Ebadf, Enospc, Eproto}
+use Rattle.mg_base.specs.declared.errno.Errno.TheVariants.{Enoent, Enotdir, Eacces, Ebadf, Enospc, Eproto}
 use Rattle.host_traits.specs.Did.{Trace}
 use Rattle.verity_path.specs.declared.device.Cause.{Cause}
-use Rattle.authfs_dirs.specs.Names.{Node, NodeMap, Names, ◌>>=◌, needs, found, node_at, put_if, changed, settled, settle_if, lives, one_more, with_lookups, with_pins, looked_up, forgotten, pinned, unpinned, cleared, reset_node, IsReset, lookup_check}
+use Rattle.authfs_dirs.specs.Names.{Node, NodeMap, Names, ◌>>=◌, needs, found, node_at, put_if, changed, settled, settle_if, lives, one_more, with_lookups, with_pins, looked_up, forgotten, pinned, unpinned, cleared, reset_node, IsReset, lookup_check, is_dir}
 use Rattle.authfs_files.specs.Open.{AreRising, node_of, is_of, holds, may_open, closed}
 use Rattle.fuse_codec.specs.Message.{Asked, init, lookup, forget, batch_forget, interrupt, getattr, setattr, opening, opendir, read, write, flush, fsync, release, releasedir, readdir, create, mkdir, unlink, rmdir, statfs, destroy}
 use Rattle.fuse_codec.specs.Reply as reply
 use Rattle.fuse_codec.specs.Reply.{Answer}
-use Rattle.fuse_server.specs.State.{State, as_file, live, live_file, held}
-use Rattle.fuse_server.specs.Aims.{Aim, open_aim, handled_aim, ready_aim, message_aim}
+use Rattle.fuse_server.specs.State.{State, as_file, live, live_file, live_dir, held}
+use Rattle.fuse_server.specs.Aims.{Aim, open_aim, opendir_aim, handled_aim, releasedir_aim, ready_aim, message_aim}
 use Rattle.fuse_server.specs.Effects.{Becomes, UnlessRefused, IsDestroyed, with_names, counted, all_forgotten, with_handle, without_handle, initialised}
 use Rattle.fuse_server.specs.Rows.{FuseRow}
 use Rattle.fuse_server.specs.Ties.{handles_of, pins_of, AreTied, TiedAtFirst, TiesStay}
@@ -192,6 +192,9 @@ ok_of (Err y) x e = absurd cc
 live_of : (s : State) (node : ℕ) → IsOk (live_file s node) → Lives s node
 live_of s node ok = let p = passed (live s node) (λ kind. as_file s.files kind) ok in lives_by s node (node_at s.names node) refl (ok_of (live s node) p.value p.is)
 
+dir_of : (s : State) (node : ℕ) → IsOk (live_dir s node) → Lives s node
+dir_of s node ok = let p = passed (live s node) (λ kind. needs (is_dir kind) Enotdir) ok in lives_by s node (node_at s.names node) refl (ok_of (live s node) p.value p.is)
+
 record MayOpen (s : State) (node : ℕ) : Type 0 where
   pub lives : Lives s node
   pub few : length s.open_handles + 1 ≤ 4096
@@ -216,6 +219,14 @@ opens s node flags ok =
     let m = passed (needs (may_open s.open_handles s.given) Enospc) _ w.rest in
     record { lives = live_of s node (ok_of (live_file s node) f.value f.is); few = few_of s.open_handles s.given (needed (may_open s.open_handles s.given) Enospc m.value m.is) }
 
+opens_dir : (s : State) (node : ℕ) → IsOk (message_aim s node opendir) → MayOpen s node
+unfolding message_aim ready_aim opendir_aim
+opens_dir s node ok =
+    let r = passed (needs s.ready Eproto) _ ok in
+    let d = passed (live_dir s node) _ r.rest in
+    let m = passed (needs (may_open s.open_handles s.given) Enospc) _ d.rest in
+    record { lives = dir_of s node (ok_of (live_dir s node) d.value d.is); few = few_of s.open_handles s.given (needed (may_open s.open_handles s.given) Enospc m.value m.is) }
+
 node_is : (o : Option ℕ) (node : ℕ) → is_of o node ≡ true → o ≡ Some node
 node_is None node e = absurd cc
 node_is (Some n) node e = ap Some (eq_of n node e)
@@ -230,6 +241,14 @@ releases s node fh ok =
     let r = passed (needs s.ready Eproto) _ ok in
     let f = passed (live_file s node) _ r.rest in
     let h = passed (held s fh node) _ f.rest in
+    holds_it s.open_handles fh node (needed (holds s.open_handles fh node) Ebadf h.value h.is)
+
+releases_dir : (s : State) (node fh : ℕ) → IsOk (message_aim s node (releasedir fh)) → node_of fh s.open_handles ≡ Some node
+unfolding message_aim ready_aim releasedir_aim
+releases_dir s node fh ok =
+    let r = passed (needs s.ready Eproto) _ ok in
+    let d = passed (live_dir s node) _ r.rest in
+    let h = passed (held s fh node) _ d.rest in
     holds_it s.open_handles fh node (needed (holds s.open_handles fh node) Ebadf h.value h.is)
 
 -- ---- each answer
@@ -324,13 +343,13 @@ becomes s node interrupt t a c new w row u = same s new u w
 becomes s node getattr t a c new w row u = same s new u w
 becomes s node (setattr valid size) t a c new w row u = same s new u w
 becomes s node (opening flags) t a c new w row u = unless s new _ a w u (λ n e. same _ new e (tied_opened s node (opens s node flags (answered _ t a c row n)) w))
-becomes s node opendir t a c new w row u = same s new u w
+becomes s node opendir t a c new w row u = unless s new _ a w u (λ n e. same _ new e (tied_opened s node (opens_dir s node (answered _ t a c row n)) w))
 becomes s node (read fh offset size) t a c new w row u = same s new u w
 becomes s node (write fh offset bytes) t a c new w row u = same s new u w
 becomes s node (flush fh) t a c new w row u = same s new u w
 becomes s node (fsync fh) t a c new w row u = same s new u w
 becomes s node (release fh) t a c new w row u = unless s new _ a w u (λ n e. same _ new e (tied_released s node fh (releases s node fh (answered _ t a c row n)) w))
-becomes s node (releasedir fh) t a c new w row u = same s new u w
+becomes s node (releasedir fh) t a c new w row u = unless s new _ a w u (λ n e. same _ new e (tied_released s node fh (releases_dir s node fh (answered _ t a c row n)) w))
 becomes s node (readdir fh offset size) t a c new w row u = same s new u w
 becomes s node (create name) t a c new w row u = same s new u w
 becomes s node (mkdir name) t a c new w row u = same s new u w

@@ -10,9 +10,9 @@ use Rattle.authfs_dirs.specs.declared.kind.Kind.TheVariants.{Dir, ReadOnly, Writ
 use Rattle.authfs_dirs.specs.Names.{Node, NodeMap, ◌>>=◌, needs, found, node_at, directory, lookup_check, is_dir, host_of, may_add, may_remove}
 use Rattle.authfs_files.specs.Open.{may_open}
 use Rattle.fuse_codec.specs.Message.{Asked, init, lookup, forget, batch_forget, interrupt, getattr, setattr, opening, opendir, read, write, flush, fsync, release, releasedir, readdir, create, mkdir, unlink, rmdir, statfs, destroy, Message, Bad, quiet, bad_length, bad_opcode, bad_sizes}
-use Rattle.fuse_server.specs.State.{State, Files, file_at, as_file, attr_of, attr_of_file, live, live_file, held}
-use Rattle.fuse_server.specs.Aims.{Aim, is_old, init_aim, lookup_aim, getattr_aim, setattr_aim, size_refusal, asks_size, open_aim, read_aim, write_aim, handled_aim, add_aim, remove_aim, statfs_aim, ready_aim, message_aim, aim_of}
-use Rattle.fuse_server.specs.Serving.{IsServedKind, AreServed, IsUnserved, IsUnknown}
+use Rattle.fuse_server.specs.State.{State, Files, file_at, as_file, attr_of, attr_of_file, live, live_file, live_dir, held}
+use Rattle.fuse_server.specs.Aims.{Aim, is_old, init_aim, lookup_aim, getattr_aim, setattr_aim, size_refusal, asks_size, open_aim, opendir_aim, read_aim, write_aim, handled_aim, releasedir_aim, readdir_aim, add_aim, remove_aim, statfs_aim, ready_aim, message_aim, aim_of}
+use Rattle.fuse_server.specs.Serving.{IsServedKind, AreServed, IsUnknown}
 
 abbrev NotNosys : {A : Type 0} → Result A Errno → Type 0
 NotNosys r = r ≡ Err Enosys → ⊥
@@ -157,6 +157,21 @@ module _ (s : State) (w : AreServed s.names s.files) where
   unfolding write_aim
   write_not n fh = bind_not (live_file s n) _ (live_file_not n) (λ f e. bind_not (held s fh n) _ (held_not fh n) (λ u g same. acces_not (err_is Eacces same)))
 
+  live_dir_not : (n : ℕ) → NotNosys (live_dir s n)
+  live_dir_not n = bind_not (live s n) _ (live_not n) (λ kind e. needs_not (is_dir kind) Enotdir notdir_not)
+
+  opendir_not : (n : ℕ) → NotNosys (opendir_aim s n)
+  unfolding opendir_aim
+  opendir_not n = bind_not (live_dir s n) _ (live_dir_not n) (λ u e. bind_not (needs (may_open s.open_handles s.given) Enospc) _ (needs_not (may_open s.open_handles s.given) Enospc nospc_not) (λ v g. no_err _))
+
+  releasedir_not : (n fh : ℕ) → NotNosys (releasedir_aim s n fh)
+  unfolding releasedir_aim
+  releasedir_not n fh = bind_not (live_dir s n) _ (live_dir_not n) (λ u e. bind_not (held s fh n) _ (held_not fh n) (λ v g. no_err _))
+
+  readdir_not : (n fh offset size : ℕ) → NotNosys (readdir_aim s n fh offset size)
+  unfolding readdir_aim
+  readdir_not n fh offset size = bind_not (live_dir s n) _ (live_dir_not n) (λ u e. bind_not (held s fh n) _ (held_not fh n) (λ v g. no_err _))
+
   handled_not : (n fh : ℕ) → NotNosys (handled_aim s n fh)
   unfolding handled_aim
   handled_not n fh = bind_not (live_file s n) _ (live_file_not n) (λ f e. bind_not (held s fh n) _ (held_not fh n) (λ u g. no_err _))
@@ -177,30 +192,30 @@ module _ (s : State) (w : AreServed s.names s.files) where
   unfolding init_aim
   init_not a b c e = bind_not (needs (not s.ready) Eproto) _ (needs_not (not s.ready) Eproto proto_not) (λ u f. bind_not (needs (not (is_old a b)) Eproto) _ (needs_not (not (is_old a b)) Eproto proto_not) (λ v g. no_err _))
 
-  asked_not : (n : ℕ) (asked : Asked) → message_aim s n asked ≡ Err Enosys → IsUnserved asked
+  asked_not : (n : ℕ) (asked : Asked) → message_aim s n asked ≡ Err Enosys → ⊥
   unfolding message_aim ready_aim
-  asked_not n (init a b c e) same = absurd (init_not a b c e same)
-  asked_not n (forget k) same = absurd (no_err _ same)
-  asked_not n (batch_forget pairs) same = absurd (no_err _ same)
-  asked_not n interrupt same = absurd (no_err _ same)
-  asked_not n opendir same = tt
-  asked_not n (releasedir fh) same = tt
-  asked_not n (readdir fh offset size) same = tt
-  asked_not n (lookup name) same = absurd (bind_not (needs s.ready Eproto) _ (needs_not s.ready Eproto proto_not) (λ u e. lookup_not n name) same)
-  asked_not n getattr same = absurd (bind_not (needs s.ready Eproto) _ (needs_not s.ready Eproto proto_not) (λ u e. getattr_not n) same)
-  asked_not n (setattr valid size) same = absurd (bind_not (needs s.ready Eproto) _ (needs_not s.ready Eproto proto_not) (λ u e. setattr_not n valid) same)
-  asked_not n (opening flags) same = absurd (bind_not (needs s.ready Eproto) _ (needs_not s.ready Eproto proto_not) (λ u e. open_not n flags) same)
-  asked_not n (read fh offset size) same = absurd (bind_not (needs s.ready Eproto) _ (needs_not s.ready Eproto proto_not) (λ u e. read_not n fh offset size) same)
-  asked_not n (write fh offset bytes) same = absurd (bind_not (needs s.ready Eproto) _ (needs_not s.ready Eproto proto_not) (λ u e. write_not n fh) same)
-  asked_not n (flush fh) same = absurd (bind_not (needs s.ready Eproto) _ (needs_not s.ready Eproto proto_not) (λ u e. handled_not n fh) same)
-  asked_not n (fsync fh) same = absurd (bind_not (needs s.ready Eproto) _ (needs_not s.ready Eproto proto_not) (λ u e. handled_not n fh) same)
-  asked_not n (release fh) same = absurd (bind_not (needs s.ready Eproto) _ (needs_not s.ready Eproto proto_not) (λ u e. handled_not n fh) same)
-  asked_not n (create name) same = absurd (bind_not (needs s.ready Eproto) _ (needs_not s.ready Eproto proto_not) (λ u e. add_not n name) same)
-  asked_not n (mkdir name) same = absurd (bind_not (needs s.ready Eproto) _ (needs_not s.ready Eproto proto_not) (λ u e. add_not n name) same)
-  asked_not n (unlink name) same = absurd (bind_not (needs s.ready Eproto) _ (needs_not s.ready Eproto proto_not) (λ u e. remove_not n name false) same)
-  asked_not n (rmdir name) same = absurd (bind_not (needs s.ready Eproto) _ (needs_not s.ready Eproto proto_not) (λ u e. remove_not n name true) same)
-  asked_not n statfs same = absurd (bind_not (needs s.ready Eproto) _ (needs_not s.ready Eproto proto_not) (λ u e. statfs_not n) same)
-  asked_not n destroy same = absurd (bind_not (needs s.ready Eproto) _ (needs_not s.ready Eproto proto_not) (λ u e. no_err _) same)
+  asked_not n (init a b c e) same = init_not a b c e same
+  asked_not n (forget k) same = no_err _ same
+  asked_not n (batch_forget pairs) same = no_err _ same
+  asked_not n interrupt same = no_err _ same
+  asked_not n opendir same = bind_not (needs s.ready Eproto) _ (needs_not s.ready Eproto proto_not) (λ u e. opendir_not n) same
+  asked_not n (releasedir fh) same = bind_not (needs s.ready Eproto) _ (needs_not s.ready Eproto proto_not) (λ u e. releasedir_not n fh) same
+  asked_not n (readdir fh offset size) same = bind_not (needs s.ready Eproto) _ (needs_not s.ready Eproto proto_not) (λ u e. readdir_not n fh offset size) same
+  asked_not n (lookup name) same = bind_not (needs s.ready Eproto) _ (needs_not s.ready Eproto proto_not) (λ u e. lookup_not n name) same
+  asked_not n getattr same = bind_not (needs s.ready Eproto) _ (needs_not s.ready Eproto proto_not) (λ u e. getattr_not n) same
+  asked_not n (setattr valid size) same = bind_not (needs s.ready Eproto) _ (needs_not s.ready Eproto proto_not) (λ u e. setattr_not n valid) same
+  asked_not n (opening flags) same = bind_not (needs s.ready Eproto) _ (needs_not s.ready Eproto proto_not) (λ u e. open_not n flags) same
+  asked_not n (read fh offset size) same = bind_not (needs s.ready Eproto) _ (needs_not s.ready Eproto proto_not) (λ u e. read_not n fh offset size) same
+  asked_not n (write fh offset bytes) same = bind_not (needs s.ready Eproto) _ (needs_not s.ready Eproto proto_not) (λ u e. write_not n fh) same
+  asked_not n (flush fh) same = bind_not (needs s.ready Eproto) _ (needs_not s.ready Eproto proto_not) (λ u e. handled_not n fh) same
+  asked_not n (fsync fh) same = bind_not (needs s.ready Eproto) _ (needs_not s.ready Eproto proto_not) (λ u e. handled_not n fh) same
+  asked_not n (release fh) same = bind_not (needs s.ready Eproto) _ (needs_not s.ready Eproto proto_not) (λ u e. handled_not n fh) same
+  asked_not n (create name) same = bind_not (needs s.ready Eproto) _ (needs_not s.ready Eproto proto_not) (λ u e. add_not n name) same
+  asked_not n (mkdir name) same = bind_not (needs s.ready Eproto) _ (needs_not s.ready Eproto proto_not) (λ u e. add_not n name) same
+  asked_not n (unlink name) same = bind_not (needs s.ready Eproto) _ (needs_not s.ready Eproto proto_not) (λ u e. remove_not n name false) same
+  asked_not n (rmdir name) same = bind_not (needs s.ready Eproto) _ (needs_not s.ready Eproto proto_not) (λ u e. remove_not n name true) same
+  asked_not n statfs same = bind_not (needs s.ready Eproto) _ (needs_not s.ready Eproto proto_not) (λ u e. statfs_not n) same
+  asked_not n destroy same = bind_not (needs s.ready Eproto) _ (needs_not s.ready Eproto proto_not) (λ u e. no_err _) same
 
   pub all_served : (m : Result Message Bad) → aim_of s m ≡ Err Enosys → IsUnknown m
   all_served (Ok m) same = asked_not m.node m.asked same

@@ -6,14 +6,15 @@ use Rattle.ro_file.specs.Files.{MeasuredFile}
 use Rattle.authfs_dirs.specs.declared.kind.Kind.{Kind}
 use Rattle.authfs_dirs.specs.declared.kind.Kind.TheVariants.{Dir, ReadOnly, Writable}
 use Rattle.authfs_dirs.specs.Names.{◌>>=◌, needs, lookup_check, may_add, may_remove}
+use Rattle.authfs_dirs.specs.Dirents.{listing}
 use Rattle.authfs_files.specs.Open.{may_open}
 use Rattle.fuse_codec.specs.Message.{Asked, init, lookup, forget, batch_forget, interrupt, getattr, setattr, opening, opendir, read, write, flush, fsync, release, releasedir, readdir, create, mkdir, unlink, rmdir, statfs, destroy, Message, Bad, quiet, bad_length, bad_opcode, bad_sizes}
 use Rattle.fuse_codec.specs.declared.reply.InitOut.{InitOut}
-use Rattle.fuse_codec.specs.Reply.{Answer, silent, empty, entry, attributes, opened, statfs_out, inited}
-use Rattle.fuse_server.specs.State.{State, live, live_file, attr_of, held}
+use Rattle.fuse_codec.specs.Reply.{Answer, silent, empty, entry, attributes, opened, statfs_out, inited, bytes_out}
+use Rattle.fuse_server.specs.State.{State, live, live_file, live_dir, attr_of, held}
 
--- What a message that isn't refused aims at: an answer that the state gives; the same, where memory is taken for a handle; a
--- read of a file.
+-- What a message that isn't refused aims at: an answer that the state gives; the same, where memory is taken for a handle or a
+-- listing; a read of a file.
 pub data Aim : Type 0 where
   says : (answer : Answer) → Aim
   makes : (answer : Answer) → Aim
@@ -69,12 +70,18 @@ set_attr s node valid kind = if asks_size valid then Err (size_refusal kind) els
 unfoldable pub setattr_aim : State → ℕ → ℕ → Result Aim Errno
 setattr_aim s node valid = live s node >>= λ kind. set_attr s node valid kind
 
+-- one handle more
+abbrev pub handle_aim : State → Result Aim Errno
+handle_aim s = needs (may_open s.open_handles s.given) Enospc >>= λ _. Ok (makes (opened (s.given + 1)))
+
 unfoldable pub open_aim : State → ℕ → ℕ → Result Aim Errno
 open_aim s node flags = do
   _ ← live_file s node
   _ ← needs (flags % 4 == 0) Eacces
-  _ ← needs (may_open s.open_handles s.given) Enospc
-  Ok (makes (opened (s.given + 1)))
+  handle_aim s
+
+unfoldable pub opendir_aim : State → ℕ → Result Aim Errno
+opendir_aim s node = live_dir s node >>= λ _. handle_aim s
 
 unfoldable pub read_aim : State → ℕ → ℕ → ℕ → ℕ → Result Aim Errno
 read_aim s node fh offset size = do
@@ -89,12 +96,23 @@ write_aim s node fh = do
   _ ← held s fh node
   Err Eacces
 
+-- a handle that is held
+abbrev pub held_aim : State → ℕ → ℕ → Result Aim Errno
+held_aim s node fh = held s fh node >>= λ _. Ok (says empty)
+
 -- FLUSH, FSYNC and RELEASE
 unfoldable pub handled_aim : State → ℕ → ℕ → Result Aim Errno
-handled_aim s node fh = do
-  _ ← live_file s node
+handled_aim s node fh = live_file s node >>= λ _. held_aim s node fh
+
+unfoldable pub releasedir_aim : State → ℕ → ℕ → Result Aim Errno
+releasedir_aim s node fh = live_dir s node >>= λ _. held_aim s node fh
+
+-- the entries with a cookie above the offset, as many as are whole in so many bytes
+unfoldable pub readdir_aim : State → ℕ → ℕ → ℕ → ℕ → Result Aim Errno
+readdir_aim s node fh offset size = do
+  _ ← live_dir s node
   _ ← held s fh node
-  Ok (says empty)
+  Ok (makes (bytes_out (listing s.names.nodes node offset size)))
 
 -- CREATE and MKDIR: no directory that the host has is served
 unfoldable pub add_aim : State → ℕ → List ℕ → Result Aim Errno
@@ -107,7 +125,7 @@ remove_aim s parent name dir = may_remove s.names.nodes parent name dir >>= λ _
 unfoldable pub statfs_aim : State → ℕ → Result Aim Errno
 statfs_aim s node = live s node >>= λ _. Ok (says statfs_out)
 
--- once initialised; OPENDIR, READDIR and RELEASEDIR are not served
+-- once initialised
 unfoldable pub ready_aim : State → ℕ → Asked → Result Aim Errno
 ready_aim s node (init major minor readahead flags) = init_aim s major minor readahead flags
 ready_aim s node (lookup name) = lookup_aim s node name
@@ -117,14 +135,14 @@ ready_aim s node interrupt = Ok (says silent)
 ready_aim s node getattr = getattr_aim s node
 ready_aim s node (setattr valid size) = setattr_aim s node valid
 ready_aim s node (opening flags) = open_aim s node flags
-ready_aim s node opendir = Err Enosys
+ready_aim s node opendir = opendir_aim s node
 ready_aim s node (read fh offset size) = read_aim s node fh offset size
 ready_aim s node (write fh offset bytes) = write_aim s node fh
 ready_aim s node (flush fh) = handled_aim s node fh
 ready_aim s node (fsync fh) = handled_aim s node fh
 ready_aim s node (release fh) = handled_aim s node fh
-ready_aim s node (releasedir fh) = Err Enosys
-ready_aim s node (readdir fh offset size) = Err Enosys
+ready_aim s node (releasedir fh) = releasedir_aim s node fh
+ready_aim s node (readdir fh offset size) = readdir_aim s node fh offset size
 ready_aim s node (create name) = add_aim s node name
 ready_aim s node (mkdir name) = add_aim s node name
 ready_aim s node (unlink name) = remove_aim s node name false

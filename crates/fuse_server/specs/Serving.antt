@@ -4,7 +4,7 @@ use Rattle.mg_base.specs.declared.errno.Errno.TheVariants.{Enosys}
 use Rattle.authfs_dirs.specs.declared.kind.Kind.{Kind}
 use Rattle.authfs_dirs.specs.declared.kind.Kind.TheVariants.{Dir, ReadOnly, Writable}
 use Rattle.authfs_dirs.specs.Names.{Node, Names, node_at}
-use Rattle.fuse_codec.specs.Message.{Asked, opendir, releasedir, readdir, Message, Bad, bad_opcode}
+use Rattle.fuse_codec.specs.Message.{Message, Bad, bad_opcode}
 use Rattle.fuse_codec.specs.Reply.{Answer}
 use Rattle.fuse_server.specs.State.{State, Files, file_at}
 use Rattle.fuse_server.specs.Aims.{aim_of}
@@ -21,15 +21,9 @@ IsServedKind files (Writable file) = ⊥
 abbrev pub AreServed : Names → Files → Type 0
 AreServed names files = (n : ℕ) (x : Node) → node_at names n ≡ Some x → IsServedKind files x.kind
 
--- the operations that are not served
-abbrev pub IsUnserved : Asked → Type 0
-IsUnserved opendir = Unit {0}
-IsUnserved (releasedir fh) = Unit {0}
-IsUnserved (readdir fh offset size) = Unit {0}
-IsUnserved other = ⊥
-
+-- an opcode that is no operation's
 abbrev pub IsUnknown : Result Message Bad → Type 0
-IsUnknown (Ok m) = IsUnserved m.asked
+IsUnknown (Ok m) = ⊥
 IsUnknown (Err (bad_opcode unique op)) = Unit {0}
 IsUnknown (Err other) = ⊥
 
@@ -41,6 +35,6 @@ FilesStay = (s : State) (m : Result Message Bad) (a : Answer) (new : State) → 
 abbrev pub ServedStay : Type 0
 ServedStay = (s : State) (m : Result Message Bad) (a : Answer) (new : State) → Next s m a new → AreServed s.names s.files → AreServed new.names new.files
 
--- Law: over such names ENOSYS is answered to these operations and to unknown ones alone.
+-- Law: over such names ENOSYS is answered to unknown opcodes alone.
 abbrev pub AllIsServed : Type 0
 AllIsServed = (s : State) (m : Result Message Bad) → AreServed s.names s.files → aim_of s m ≡ Err Enosys → IsUnknown m

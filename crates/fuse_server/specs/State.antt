@@ -1,15 +1,14 @@
 -- What the server keeps: whether it is initialised, names and nodes, open handles, and the read-only files.
 use Rattle.std.specs.Prelude.{Bool, ℕ, List, Option, Result, Ok, Err}
-use Rattle.std.specs.Option.{option_map}
 use Rattle.std.specs.Ordering.{nat_cmp}
 use Rattle.std.specs.Map.{lookup}
 use Rattle.std.specs.BTreeMap.{is_at}
 use Rattle.mg_base.specs.declared.errno.Errno.{Errno}
-use Rattle.mg_base.specs.declared.errno.Errno.TheVariants.{Enoent, Eisdir, Ebadf, Enosys}
+use Rattle.mg_base.specs.declared.errno.Errno.TheVariants.{Enoent, Enotdir, Eisdir, Ebadf, Enosys}
 use Rattle.ro_file.specs.Files.{MeasuredFile}
 use Rattle.authfs_dirs.specs.declared.kind.Kind.{Kind}
 use Rattle.authfs_dirs.specs.declared.kind.Kind.TheVariants.{Dir, ReadOnly, Writable}
-use Rattle.authfs_dirs.specs.Names.{Node, Names, ◌>>=◌, needs, found, node_at}
+use Rattle.authfs_dirs.specs.Names.{Names, ◌>>=◌, needs, found, is_dir, kind_at}
 use Rattle.authfs_files.specs.Open.{holds}
 use Rattle.fuse_codec.specs.declared.reply.Attr.{Attr}
 
@@ -28,9 +27,6 @@ pub record State : Type 0 where
   pub open_handles : List (ℕ × ℕ)
   pub given : ℕ
   pub files : Files
-
-abbrev pub kind_at : Names → ℕ → Option Kind
-kind_at names node = option_map (λ (x : Node). x.kind) (node_at names node)
 
 -- the read-only file of a node; a writable one, and one that isn't there, is not served
 abbrev pub as_file : Files → Kind → Result MeasuredFile Errno
@@ -54,6 +50,10 @@ live s node = found (kind_at s.names node) Enoent
 -- live; directory EISDIR
 abbrev pub live_file : State → ℕ → Result MeasuredFile Errno
 live_file s node = live s node >>= λ kind. as_file s.files kind
+
+-- live; not a directory ENOTDIR
+abbrev pub live_dir : State → ℕ → Result (Unit {0}) Errno
+live_dir s node = live s node >>= λ kind. needs (is_dir kind) Enotdir
 
 -- handle: open, and of this node
 abbrev pub held : State → ℕ → ℕ → Result (Unit {0}) Errno

@@ -9,11 +9,10 @@ ghost use Rattle.fuse_server.specs.Deeds.{IsDeed, ReadsFew, Answers};
 ghost use Rattle.fuse_server.specs.Answers.{read_answer};
 ghost use Rattle.fuse_server.specs.Rows.{IsFileRead, ReadRow, FuseRow, IsForFuse, most_for_fuse, FuseIsRight, answer_by};
 
-use crate::deed::Deed;
+use crate::deed::{Deed, Reading};
 use fuse_codec::FuseReply;
 use host_traits::Host;
 use mg_base::Errno;
-use ro_file::RoFile;
 use verity_path::{Buffers, Cause, Served, WalkFault};
 
 /// The reply, where there is one, and why it is a failure.
@@ -59,24 +58,31 @@ fn read_end(unique: u64, done: Result<(), WalkFault>) -> FuseAnswer
 fn answer_read<H: Host>(
     host: &mut H,
     unique: u64,
-    file: &RoFile,
-    offset: u64,
-    size: u32,
+    reading: &Reading,
     buf: &mut Buffers,
     served: &mut Served,
 ) -> FuseAnswer
     requires empty { served.old ≡ [] }
-    requires few { size ≤ 131072 }
-    ensures did { Did (IsFileRead file.now offset size)
-        (most_answers file.now.measure file.now.size offset size)
+    requires few { reading.now.size ≤ 131072 }
+    ensures did { Did (IsFileRead reading.now.file reading.now.offset reading.now.size)
+        (most_answers reading.now.file.measure reading.now.file.size
+        reading.now.offset reading.now.size)
         (H.told host.old) (H.told host.new)
-        (λ t. ReadRow file.now offset size t (answer_by result.reply served.new) result.cause) }
-    ensures held { FuseIsRight (Ok (reads file.now offset size))
+        (λ t. ReadRow reading.now.file reading.now.offset reading.now.size t
+        (answer_by result.reply served.new) result.cause) }
+    ensures held { FuseIsRight (Ok (reads reading.now.file reading.now.offset reading.now.size))
         (H.told host.old) (H.told host.new)
         (answer_by result.reply served.new) }
     ensures number { IfSome result.reply (λ r. unique_of r ≡ unique) }
 {
-    let done = file.read(host, offset, size, &mut buf.raw, &mut buf.page, served);
+    let done = reading.file.read(
+        host,
+        reading.offset,
+        reading.size,
+        &mut buf.raw,
+        &mut buf.page,
+        served,
+    );
     read_end(unique, done)
 }
 
@@ -91,45 +97,32 @@ pub(crate) fn said(reply: Option<FuseReply>) -> FuseAnswer
 pub(crate) fn finish<H: Host>(
     host: &mut H,
     unique: u64,
-    deed: &Result<Deed, Errno>,
+    deed: Result<Deed, Errno>,
     buf: &mut Buffers,
     served: &mut Served,
 ) -> FuseAnswer
     requires empty { served.old ≡ [] }
-    requires few { ReadsFew deed.now }
-    ensures did { (aim : Result Aim Errno) → IsDeed aim deed.now
+    requires few { ReadsFew deed }
+    ensures did { (aim : Result Aim Errno) → IsDeed aim deed
         → Did (IsForFuse aim) (most_for_fuse aim)
         (H.told host.old) (H.told host.new)
         (λ t. FuseRow aim t (answer_by result.reply served.new) result.cause) }
-    ensures held { (aim : Result Aim Errno) → IsDeed aim deed.now
+    ensures held { (aim : Result Aim Errno) → IsDeed aim deed
         → FuseIsRight aim (H.told host.old) (H.told host.new)
         (answer_by result.reply served.new) }
-    ensures says { Answers deed.now (answer_by result.reply served.new) }
+    ensures says { Answers deed (answer_by result.reply served.new) }
     ensures number { IfSome result.reply (λ r. unique_of r ≡ unique) }
 {
     match deed {
         Ok(Deed::Silent) => said(None),
         Ok(Deed::Empty) => said(Some(FuseReply::Empty { unique })),
-        Ok(Deed::Entry(entry)) => said(Some(FuseReply::Entry {
-            unique,
-            entry: *entry,
-        })),
-        Ok(Deed::Attr(attr)) => said(Some(FuseReply::Attr {
-            unique,
-            attr: *attr,
-        })),
-        Ok(Deed::Opened(handle)) => said(Some(FuseReply::Opened {
-            unique,
-            handle: *handle,
-        })),
+        Ok(Deed::Entry(entry)) => said(Some(FuseReply::Entry { unique, entry })),
+        Ok(Deed::Attr(attr)) => said(Some(FuseReply::Attr { unique, attr })),
+        Ok(Deed::Opened(handle)) => said(Some(FuseReply::Opened { unique, handle })),
         Ok(Deed::Statfs) => said(Some(FuseReply::Statfs { unique })),
-        Ok(Deed::Init(init)) => said(Some(FuseReply::Init {
-            unique,
-            init: *init,
-        })),
-        Ok(Deed::Read { file, offset, size }) => {
-            answer_read(host, unique, file, *offset, *size, buf, served)
-        }
-        Err(errno) => refuse(unique, *errno, None),
+        Ok(Deed::Init(init)) => said(Some(FuseReply::Init { unique, init })),
+        Ok(Deed::Names(listing)) => said(Some(FuseReply::Names { unique, listing })),
+        Ok(Deed::Read(reading)) => answer_read(host, unique, &reading, buf, served),
+        Err(errno) => refuse(unique, errno, None),
     }
 }

@@ -1,6 +1,6 @@
 // Checks of a message, each for one of its fields.
 ghost use Rattle.std.specs.Prelude.{◌≡◌};
-ghost use Rattle.fuse_server.specs.State.{live, live_file, attr_of, held};
+ghost use Rattle.fuse_server.specs.State.{live, live_file, live_dir, attr_of, held};
 ghost use Rattle.fuse_server.specs.Parts.{state_of};
 
 use crate::files::Files;
@@ -39,6 +39,21 @@ pub(crate) fn live_file(parts: &Parts, node: u64) -> Result<RoFile, Errno>
             None => Err(Errno::Enosys),
         },
         Kind::Writable { .. } => Err(Errno::Enosys),
+    }
+}
+
+/// Whether a live node is a directory.
+pub(crate) fn live_dir(parts: &Parts, node: u64) -> Result<(), Errno>
+    ensures { result ≡ live_dir (state_of parts.now) node }
+{
+    let kind = match live(parts, node) {
+        Ok(kind) => kind,
+        Err(errno) => return Err(errno),
+    };
+    if kind.is_dir() {
+        Ok(())
+    } else {
+        Err(Errno::Enotdir)
     }
 }
 

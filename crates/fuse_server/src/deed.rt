@@ -1,4 +1,5 @@
 // What a message comes to before any call of the host.
+use authfs_dirs::Listing;
 use fuse_codec::{Attr, EntryOut, InitOut};
 use ro_file::RoFile;
 
@@ -12,9 +13,14 @@ pub(crate) enum Deed {
     Opened(u64),
     Statfs,
     Init(InitOut),
-    Read {
-        file: RoFile,
-        offset: u64,
-        size: u32,
-    },
+    Names(Listing),
+    Read(Reading),
+}
+
+/// A read of a file.
+#[derive(Drop)]
+pub(crate) struct Reading {
+    pub(crate) file: RoFile,
+    pub(crate) offset: u64,
+    pub(crate) size: u32,
 }

@@ -10,8 +10,8 @@ ghost use Rattle.fuse_server.specs.Parts.{state_of};
 use crate::deed::Deed;
 use crate::parts::Parts;
 use crate::rows::{
-    add, destroy, flush, forget, getattr, init, lookup, open, read, release, remove, setattr,
-    statfs, write,
+    add, destroy, flush, forget, getattr, init, lookup, open, opendir, read, readdir, release,
+    releasedir, remove, setattr, statfs, write,
 };
 use authfs_dirs::Dirs;
 use fuse_codec::Body;
@@ -92,18 +92,20 @@ fn perform_ready(parts: &mut Parts, node: u64, body: &Body<'_>) -> Result<Deed, 
         Body::Getattr => getattr(parts, node),
         Body::Setattr { valid, .. } => setattr(parts, node, valid),
         Body::Open { flags } => open(parts, node, flags),
+        Body::Opendir => opendir(parts, node),
         Body::Read { fh, offset, size } => read(parts, node, fh, offset, size),
         Body::Write { fh, .. } => write(parts, node, fh),
         Body::Flush { fh } => flush(parts, node, fh),
         Body::Fsync { fh } => flush(parts, node, fh),
         Body::Release { fh } => release(parts, node, fh),
+        Body::Releasedir { fh } => releasedir(parts, node, fh),
+        Body::Readdir { fh, offset, size } => readdir(parts, node, fh, offset, size),
         Body::Create { name } => add(parts, node, name),
         Body::Mkdir { name } => add(parts, node, name),
         Body::Unlink { name } => remove(parts, node, name, false),
         Body::Rmdir { name } => remove(parts, node, name, true),
         Body::Statfs => statfs(parts, node),
         Body::Destroy => destroy(parts),
-        Body::Opendir | Body::Readdir { .. } | Body::Releasedir { .. } => Err(Errno::Enosys),
         Body::Init {
             major,
             minor,

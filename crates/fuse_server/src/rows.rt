@@ -1,13 +1,13 @@
 // Each operation: its checks in order, and what it makes of the state.
 ghost use Rattle.std.specs.Prelude.{◌≡◌, ◌≤◌, Ok};
-ghost use Rattle.fuse_codec.specs.Message.{lookup, forget, opening, release};
-ghost use Rattle.fuse_server.specs.Aims.{init_aim, lookup_aim, getattr_aim, setattr_aim, open_aim, read_aim, write_aim, handled_aim, add_aim, remove_aim, statfs_aim};
+ghost use Rattle.fuse_codec.specs.Message.{lookup, forget, opening, opendir, release, releasedir};
+ghost use Rattle.fuse_server.specs.Aims.{init_aim, lookup_aim, getattr_aim, setattr_aim, handle_aim, open_aim, opendir_aim, read_aim, write_aim, held_aim, handled_aim, releasedir_aim, readdir_aim, add_aim, remove_aim, statfs_aim};
 ghost use Rattle.fuse_server.specs.Deeds.{IsDeed, NoRead, ReadsFew, answer_to};
-ghost use Rattle.fuse_server.specs.Effects.{Becomes, UnlessRefused, IsDestroyed, initialised};
+ghost use Rattle.fuse_server.specs.Effects.{Becomes, UnlessRefused, IsDestroyed, initialised, with_handle, without_handle};
 ghost use Rattle.fuse_server.specs.Parts.{state_of};
 
-use crate::checks::{attr_of, held, live, live_file};
-use crate::deed::Deed;
+use crate::checks::{attr_of, held, live, live_dir, live_file};
+use crate::deed::{Deed, Reading};
 use crate::parts::Parts;
 use authfs_dirs::Kind;
 use fuse_codec::{EntryOut, InitOut};
@@ -129,6 +129,41 @@ pub(crate) fn setattr(parts: &Parts, node: u64, valid: u32) -> Result<Deed, Errn
     }
 }
 
+// One handle more, of a live node.
+fn open_handle(parts: &mut Parts, node: u64) -> Result<Deed, Errno>
+    ensures row { IsDeed (handle_aim (state_of parts.old)) result }
+    ensures no_read { NoRead result }
+    ensures next { UnlessRefused (state_of parts.old) (state_of parts.new)
+        (state_of parts.new ≡ with_handle (state_of parts.old) node) (answer_to result) }
+{
+    if !parts.handles.may_open() {
+        return Err(Errno::Enospc);
+    }
+    match parts.handles.reserve() {
+        Ok(()) => {}
+        Err(_) => return Err(Errno::Enomem),
+    }
+    let handle = parts.handles.open_node(node);
+    parts.dirs.pin(node);
+    Ok(Deed::Opened(handle))
+}
+
+// One handle less, where it is open and of this node.
+fn close_handle(parts: &mut Parts, node: u64, fh: u64) -> Result<Deed, Errno>
+    ensures row { IsDeed (held_aim (state_of parts.old) node fh) result }
+    ensures no_read { NoRead result }
+    ensures next { UnlessRefused (state_of parts.old) (state_of parts.new)
+        (state_of parts.new ≡ without_handle (state_of parts.old) node fh) (answer_to result) }
+{
+    match held(parts, fh, node) {
+        Ok(()) => {}
+        Err(errno) => return Err(errno),
+    }
+    parts.handles.close(fh);
+    parts.dirs.unpin(node);
+    Ok(Deed::Empty)
+}
+
 /// OPEN: one handle more.
 #[tactic(auto, unfolding(crate::specs::Aims::open_aim))]
 pub(crate) fn open(parts: &mut Parts, node: u64, flags: u32) -> Result<Deed, Errno>
@@ -144,16 +179,22 @@ pub(crate) fn open(parts: &mut Parts, node: u64, flags: u32) -> Result<Deed, Err
     if flags % 4 != 0 {
         return Err(Errno::Eacces);
     }
-    if !parts.handles.may_open() {
-        return Err(Errno::Enospc);
-    }
-    match parts.handles.reserve() {
+    open_handle(parts, node)
+}
+
+/// OPENDIR: one handle more.
+#[tactic(auto, unfolding(crate::specs::Aims::opendir_aim))]
+pub(crate) fn opendir(parts: &mut Parts, node: u64) -> Result<Deed, Errno>
+    ensures row { IsDeed (opendir_aim (state_of parts.old) node) result }
+    ensures no_read { NoRead result }
+    ensures next { Becomes (state_of parts.old) node opendir
+        (answer_to result) (state_of parts.new) }
+{
+    match live_dir(parts, node) {
         Ok(()) => {}
-        Err(_) => return Err(Errno::Enomem),
+        Err(errno) => return Err(errno),
     }
-    let handle = parts.handles.open_node(node);
-    parts.dirs.pin(node);
-    Ok(Deed::Opened(handle))
+    open_handle(parts, node)
 }
 
 /// READ, up to the read itself.
@@ -168,7 +209,7 @@ pub(crate) fn read(parts: &Parts, node: u64, fh: u64, offset: u64, size: u32) ->
         Err(errno) => return Err(errno),
     };
     match held(parts, fh, node) {
-        Ok(()) => Ok(Deed::Read { file, offset, size }),
+        Ok(()) => Ok(Deed::Read(Reading { file, offset, size })),
         Err(errno) => Err(errno),
     }
 }
@@ -217,13 +258,49 @@ pub(crate) fn release(parts: &mut Parts, node: u64, fh: u64) -> Result<Deed, Err
         Ok(_) => {}
         Err(errno) => return Err(errno),
     }
+    close_handle(parts, node, fh)
+}
+
+/// RELEASEDIR: one handle less.
+#[tactic(auto, unfolding(crate::specs::Aims::releasedir_aim))]
+pub(crate) fn releasedir(parts: &mut Parts, node: u64, fh: u64) -> Result<Deed, Errno>
+    ensures row { IsDeed (releasedir_aim (state_of parts.old) node fh) result }
+    ensures no_read { NoRead result }
+    ensures next { Becomes (state_of parts.old) node (releasedir fh)
+        (answer_to result) (state_of parts.new) }
+{
+    match live_dir(parts, node) {
+        Ok(()) => {}
+        Err(errno) => return Err(errno),
+    }
+    close_handle(parts, node, fh)
+}
+
+/// READDIR: the entries behind the offset, as many as are whole in so many bytes.
+#[tactic(auto, unfolding(crate::specs::Aims::readdir_aim))]
+pub(crate) fn readdir(
+    parts: &Parts,
+    node: u64,
+    fh: u64,
+    offset: u64,
+    size: u32,
+) -> Result<Deed, Errno>
+    requires { size ≤ 131072 }
+    ensures row { IsDeed (readdir_aim (state_of parts.now) node fh offset size) result }
+    ensures no_read { NoRead result }
+{
+    match live_dir(parts, node) {
+        Ok(()) => {}
+        Err(errno) => return Err(errno),
+    }
     match held(parts, fh, node) {
         Ok(()) => {}
         Err(errno) => return Err(errno),
     }
-    parts.handles.close(fh);
-    parts.dirs.unpin(node);
-    Ok(Deed::Empty)
+    match parts.dirs.list(node, offset, size) {
+        Ok(listing) => Ok(Deed::Names(listing)),
+        Err(_) => Err(Errno::Enomem),
+    }
 }
 
 /// CREATE and MKDIR: why a name isn't added.

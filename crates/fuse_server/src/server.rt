@@ -80,7 +80,7 @@ fn answer_request<H: Host>(
     ensures number { IfSome result.reply (λ r. unique_of r ≡ request.now.unique) }
 {
     let deed = perform(parts, request.node, &request.body);
-    finish(host, request.unique, &deed, buf, served)
+    finish(host, request.unique, deed, buf, served)
 }
 
 impl Server {
@@ -105,7 +105,7 @@ impl Server {
     }
 
     /// The answer to a message of at least 40 bytes. A READ asks for the blocks that its range touches and the pages above
-    /// them; no other message makes a call. Memory is taken for a handle alone.
+    /// them; no other message makes a call. Memory is taken for a handle and for a listing.
     pub fn answer<H: Host>(
         &mut self,
         host: &mut H,

@@ -15,8 +15,8 @@ use Rattle.guest_rules.proofs.Runs.{turns_size as turns_length, ran_both, runs_b
 use Rattle.guest_cli.specs.declared.session.Stop.{Stop}
 use Rattle.guest_cli.specs.declared.session.Stop.TheVariants as stop
 use Rattle.guest_cli.specs.declared.session.SessionEnd.{SessionEnd}
-use Rattle.guest_cli.specs.declared.session.SessionEnd.TheVariants.{Read, BadFrame, TooMuch, Unbuilt}
-use Rattle.guest_cli.specs.Session.{Streams, RanCut, AnsweredOver, IsWhole, IsUnbuilt, IsFront, HeldOutcome, PieceOutcome, WhyEnded, Sits, SitsCut, IsSession, end_of, limit, in_limit, turns_size}
+use Rattle.guest_cli.specs.declared.session.SessionEnd.TheVariants.{Read, BadFrame, TooMuch}
+use Rattle.guest_cli.specs.Session.{Streams, RanCut, AnsweredOver, IsWhole, IsFront, HeldOutcome, PieceOutcome, WhyEnded, Sits, SitsCut, IsSession, end_of, limit, in_limit, turns_size}
 use Rattle.guest_cli.proofs.Sessions.{size_is, piece_stopped}
 
 -- the same where the settings are equal
@@ -32,9 +32,6 @@ fronts_on bytes more c p rest f = record { suits = f.suits; whole = ap (λ (t : 
 
 whole_on : (bytes more : List ℕ) → IsWhole bytes → IsWhole (bytes ++ more)
 whole_on bytes more w = record { channel = w.channel; payload = w.payload; rest = w.rest ++ more; fronts = fronts_on bytes more w.channel w.payload w.rest w.fronts }
-
-unbuilt_on : (bytes more : List ℕ) → IsUnbuilt bytes → IsUnbuilt (bytes ++ more)
-unbuilt_on bytes more w = record { channel = w.channel; payload = w.payload; rest = w.rest ++ more; fronts = fronts_on bytes more w.channel w.payload w.rest w.fronts; is = w.is }
 
 front_on : (bytes more : List ℕ) (turn : Turn) → IsFront bytes turn → IsFront (bytes ++ more) turn
 front_on bytes more turn w = record { rest = w.rest ++ more; fronts = fronts_on bytes more turn.frame.channel turn.frame.payload w.rest w.fronts }
@@ -149,9 +146,6 @@ module _ (g : Setting) (r s : State) (a b : Told) (first left out_a out_b log_a 
   ends_stopped t c left2 out_c log_c k full piece over stop.TooMuch at came parts le is w =
       sits_on t c left2 out_c log_c k full w.1 (w.2 ++ over) w.0 came (cut_of full piece over w.1 w.2 parts w.3) (few_of piece w.1 w.2 w.3 le) w.4.went (Err TooMuch) w.4.ran
       (inl (w.5.0, whole_on k.held _ w.5.1))
-  ends_stopped t c left2 out_c log_c k full piece over stop.Unbuilt at came parts le is w =
-      sits_on t c left2 out_c log_c k full w.1 (w.2 ++ over) w.0 came (cut_of full piece over w.1 w.2 parts w.3) (few_of piece w.1 w.2 w.3 le) w.4.went (Err (Unbuilt at)) w.4.ran
-      (is ∙ size_more w.1 k w.0 w.4.went, w.5.0, unbuilt_on k.held _ w.5.1)
   ends_stopped t c left2 out_c log_c k full piece over stop.Write at came parts le is w =
       sits_cut t c left2 out_c log_c k full w.2 (w.3 ++ over) w.0 came (cut_of full piece over w.2 w.3 parts w.4) (few_of piece w.2 w.3 w.4 le) w.5 w.1 w.6 w.7
 

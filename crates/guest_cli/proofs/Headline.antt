@@ -16,9 +16,9 @@ use Rattle.guest_rules.specs.Run.{AreOpened, Runs, calls_of}
 use Rattle.guest_rules.proofs.Standing.{runs_stand}
 use Rattle.guest_cli.specs.declared.boot.Machine.{Machine}
 use Rattle.guest_cli.specs.declared.session.SessionEnd.{SessionEnd}
-use Rattle.guest_cli.specs.declared.session.SessionEnd.TheVariants.{Read, Write, BadFrame, TooMuch as MuchEnd, Unbuilt as UnbuiltEnd}
+use Rattle.guest_cli.specs.declared.session.SessionEnd.TheVariants.{Read, Write, BadFrame, TooMuch as MuchEnd}
 use Rattle.guest_cli.specs.declared.status.Status.{Status}
-use Rattle.guest_cli.specs.declared.status.Form.TheVariants.{Command, Plan, Frame}
+use Rattle.guest_cli.specs.declared.status.Form.TheVariants.{Command, Plan}
 use Rattle.guest_cli.specs.declared.status.Status.TheVariants.{BootFault, Done, Usage, PlanFault, FileFault, TapeFault, StoreFault, ReadFault, WriteFault, BadFrame as BadFrameStatus, TooMuch, Memory, Unbuilt}
 use Rattle.guest_cli.specs.Session.{Streams, IsSession}
 use Rattle.guest_cli.specs.Outside.{Quiet, status_of}
@@ -45,7 +45,6 @@ session_so P Q so told old new (Ok u) d = record { bytes = d.bytes; rest = d.res
 session_so P Q so told old new (Err Read) d = record { bytes = d.bytes; rest = d.rest; turns = d.turns; came = d.came; within = d.within; runs = so d.turns d.runs; written = d.written; logged = d.logged; why = d.why }
 session_so P Q so told old new (Err (BadFrame at)) d = record { bytes = d.bytes; rest = d.rest; turns = d.turns; came = d.came; within = d.within; runs = so d.turns d.runs; written = d.written; logged = d.logged; why = d.why }
 session_so P Q so told old new (Err MuchEnd) d = record { bytes = d.bytes; rest = d.rest; turns = d.turns; came = d.came; within = d.within; runs = so d.turns d.runs; written = d.written; logged = d.logged; why = d.why }
-session_so P Q so told old new (Err (UnbuiltEnd at)) d = record { bytes = d.bytes; rest = d.rest; turns = d.turns; came = d.came; within = d.within; runs = so d.turns d.runs; written = d.written; logged = d.logged; why = d.why }
 session_so P Q so told old new (Err Write) d =
     let ran = d.ran in record {
       bytes = d.bytes;
@@ -114,7 +113,6 @@ fails_replay files plan tape entropy old new TooMuch w quiet = inl (w, quiet)
 fails_replay files plan tape entropy old new Memory w quiet = quiet
 fails_replay files plan tape entropy old new (Unbuilt Plan at) w quiet = (w, quiet)
 fails_replay files plan tape entropy old new (Unbuilt Command at) w quiet = absurd w
-fails_replay files plan tape entropy old new (Unbuilt Frame at) w quiet = absurd w
 fails_replay files plan tape entropy old new Done w quiet = absurd w
 fails_replay files plan tape entropy old new Usage w quiet = absurd w
 fails_replay files plan tape entropy old new (StoreFault line kind) w quiet = absurd w
@@ -129,7 +127,6 @@ ends_as files plan tape entropy old new (Err Read) sat = sat
 ends_as files plan tape entropy old new (Err Write) sat = sat
 ends_as files plan tape entropy old new (Err (BadFrame at)) sat = sat
 ends_as files plan tape entropy old new (Err MuchEnd) sat = inr sat
-ends_as files plan tape entropy old new (Err (UnbuiltEnd at)) sat = sat
 
 module _ (files : Option Files) (plan tape entropy : List ℕ) (k : Known) (played : Played) (bytes : List ℕ) (old new : Streams) where
   all_read : IsReady files plan tape entropy k played bytes → AllRead files plan tape entropy

@@ -19,7 +19,7 @@ use Rattle.guest_rules.specs.Machine.{Setting, State, Turn, moment}
 use Rattle.guest_rules.specs.Run.{AreOpened, Runs, calls_of}
 use Rattle.guest_rules.proofs.Standing.{runs_stand}
 use Rattle.guest_cli.specs.declared.session.SessionEnd.{SessionEnd}
-use Rattle.guest_cli.specs.declared.session.SessionEnd.TheVariants.{Read, Write, BadFrame, TooMuch as MuchEnd, Unbuilt as UnbuiltEnd}
+use Rattle.guest_cli.specs.declared.session.SessionEnd.TheVariants.{Read, Write, BadFrame, TooMuch as MuchEnd}
 use Rattle.guest_cli.specs.declared.status.Status.{Status}
 use Rattle.guest_cli.specs.declared.status.Status.TheVariants.{BootFault, Done, Usage, PlanFault, FileFault, TapeFault, StoreFault, ReadFault, WriteFault, BadFrame as BadFrameStatus, TooMuch, Memory, Unbuilt}
 use Rattle.guest_cli.specs.Session.{Streams, IsSession}
@@ -196,7 +196,6 @@ module _ (files : Option Files) (plan store entropy : List ℕ) (k : Known) (lin
   ends_before last out Write sat = unkept Write sat
   ends_before last out (BadFrame at) sat = unkept (BadFrame at) sat
   ends_before last out MuchEnd sat = inr (unkept MuchEnd sat)
-  ends_before last out (UnbuiltEnd at) sat = unkept (UnbuiltEnd at) sat
 
   -- the session was not reached, or ended before its input did
   pub ended_serves : (last : Option Errand) (out : List ℕ) (status : Status) → IsStocked files plan store entropy k lines held bytes → SatOutcome k held bytes old new (Err status) → ServesList files files last plan store entropy out old new status

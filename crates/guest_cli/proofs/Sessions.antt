@@ -13,7 +13,7 @@ use Rattle.guest_rules.specs.Step.{Stepped}
 use Rattle.session_frames.proofs.Heads.{held_at}
 use Rattle.session_frames.proofs.Sessions.{went_not, went_on, over_not, over_on}
 use Rattle.session_frames.proofs.Streams.{length_of_bytes}
-use Rattle.guest_rules.specs.Machine.{Setting, State, Turn, is_unbuilt}
+use Rattle.guest_rules.specs.Machine.{Setting, State, Turn}
 use Rattle.guest_rules.specs.Run.{IsEarly, Runs, Ran, frames_of, log_line, frame_size}
 use Rattle.guest_rules.proofs.Runs.{turns_size, turn_of, ran_none, ran_one, ran_both, frames_both, runs_both, runs_one, written_both, logged_both}
 use Rattle.guest_cli.specs.Turns.{Taken, TurnOutcome, framed}
@@ -30,7 +30,7 @@ size_is (t ∷ turns) = ap (λ n. frame_size t.frame + n) (size_is turns) ∙ sy
 told_size : (h : Option Exchanges) (n : ℕ) (heard : Exchanges) → IsHeardSize h n → h ≡ Some heard → n ≡ min (heard_size heard) (2 ^ 64 - 1)
 told_size h n heard is e = subst (λ (o : Option Exchanges). IsHeardSize o n) e is
 
-pub few_heard : (told : Told) (n : ℕ) → IsHeardSize told.heard n → n < 1073741824 → (heard : Exchanges) → told.heard ≡ Some heard → heard_size heard < 2 ^ 30
+few_heard : (told : Told) (n : ℕ) → IsHeardSize told.heard n → n < 1073741824 → (heard : Exchanges) → told.heard ≡ Some heard → heard_size heard < 2 ^ 30
 few_heard told n is lt heard e = let m = told_size told.heard n heard is e in omega (arith, m, lt)
 
 early_by : (h : Option Exchanges) → ((heard : Exchanges) → h ≡ Some heard → heard_size heard < 2 ^ 30) → IsEarly h
@@ -138,8 +138,6 @@ pub piece_stopped : (g : Setting) (r s t : State) (a b c : Told) (out_a out_b ou
 piece_stopped g r s t a b c out_a out_b out_c log_a log_b log_c o m k n piece front part left turns stop.Bad so fed same parts w =
     (turns ++ w.0, front ++ part, left, parts, over_more g r s a b out_a out_b log_a log_b o m k front part turns so fed same t c out_c log_c n w.0 w.1, w.2)
 piece_stopped g r s t a b c out_a out_b out_c log_a log_b log_c o m k n piece front part left turns stop.TooMuch so fed same parts w =
-    (turns ++ w.0, front ++ part, left, parts, over_more g r s a b out_a out_b log_a log_b o m k front part turns so fed same t c out_c log_c n w.0 w.1, w.2)
-piece_stopped g r s t a b c out_a out_b out_c log_a log_b log_c o m k n piece front part left turns stop.Unbuilt so fed same parts w =
     (turns ++ w.0, front ++ part, left, parts, over_more g r s a b out_a out_b log_a log_b o m k front part turns so fed same t c out_c log_c n w.0 w.1, w.2)
 piece_stopped g r s t a b c out_a out_b out_c log_a log_b log_c o m k n piece front part left turns stop.Write so fed same parts w = (
   turns ++ w.0,

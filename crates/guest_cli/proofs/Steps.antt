@@ -28,11 +28,11 @@ use Rattle.fuse_server.specs.Aims.{Aim, says, makes, reads as reads_file, aim_of
 use Rattle.fuse_server.specs.Effects.{Next}
 use Rattle.fuse_server.specs.Rows.{FuseRow, ReadRow, read_bytes, read_blamed, read_no_room, IsForFuse, most_for_fuse, FuseIsRight, answer_by}
 use Rattle.instance_image.specs.declared.values.Part.{Part}
-use Rattle.guest_rules.specs.Machine.{Setting, State, nowhere, item_read, size_of, message_of, request_of, is_unbuilt}
+use Rattle.guest_rules.specs.Machine.{Setting, State, nowhere, item_read, size_of, message_of, request_of}
 use Rattle.guest_rules.specs.ItemRow.{IsForItem, no_item, too_large, served, blamed, no_memory}
 use Rattle.guest_rules.specs.MessageRow.{IsOfFile}
 use Rattle.guest_rules.specs.Step.{Stepped, answers_of, most_for}
-use Rattle.guest_rules.specs.Faithful.{IsDefined, over_limit, whole, no_room, IsReadDefined, slice, no_memory as short_of_memory, ItemIsServed, MessageIsServed, RequestIsServed}
+use Rattle.guest_rules.specs.Faithful.{IsDefined, over_limit, whole, no_room, IsReadDefined, slice, no_memory as short_of_memory, ItemIsServed, MessageIsServed}
 use Rattle.guest_rules.proofs.Runs.{stepped}
 use Rattle.guest_cli.specs.Turns.{framed}
 use Rattle.guest_cli.specs.Works.{answer_to_read, message_frame}
@@ -118,16 +118,11 @@ of_none (Ok (makes x)) answer = tt
 of_none (Ok (reads_file f offset size)) answer = tt
 
 module _ (s : Fuse) (a b : Told) (payload : List ℕ) (reply : Option FuseReply) (bytes : List ℕ) (c : Option Cause) (number : IfSome reply (λ r. unique_of r ≡ number_of (decoded payload)))
-    (built : is_unbuilt 0 payload ≡ false)
     (did : Did (IsForFuse (aim_of s (decoded payload))) (most_for_fuse (aim_of s (decoded payload))) a b (λ t. FuseRow (aim_of s (decoded payload)) t (answer_by reply bytes) c)) where
-  -- the frame is a message
-  request_is : request_of (framed 0 payload) ≡ message_of (decoded payload)
-  request_is = rw built refl
-
   pub message_step : (g : Setting) (t : Fuse) (entropy : List ℕ) (parts : List Part) → Next s (decoded payload) (answer_by reply bytes) t
       → Stepped g (record { fuse = s; entropy = entropy; parts = parts }) (record { fuse = t; entropy = entropy; parts = parts }) a b (framed 0 payload) (sent_if (message_frame reply) bytes) c
-  message_step g t entropy parts next = stepped g _ _ a b (framed 0 payload) _ _ _ _ _ did (λ call given for. rw request_is for) (rw request_is (omega arith))
-      (λ run own failed row. rw request_is (refl, refl, record { answer = answer_by reply bytes; sent_is = message_sent_is (decoded payload) reply bytes number; row = row; slice = of_none (aim_of s (decoded payload)) (answer_by reply bytes); next = next }))
+  message_step g t entropy parts next = stepped g _ _ a b (framed 0 payload) _ _ _ _ _ did (λ call given for. for) (omega arith)
+      (λ run own failed row. (refl, refl, record { answer = answer_by reply bytes; sent_is = message_sent_is (decoded payload) reply bytes number; row = row; slice = of_none (aim_of s (decoded payload)) (answer_by reply bytes); next = next }))
 
   read_defined : (f : MeasuredFile) (offset size : ℕ) (t : Trace) (content : List ℕ) (answer : Answer) (why : Option Cause) (unique : ℕ) → ReadRow f offset size t answer why
       → (answer ≡ bytes_out (take size (drop offset content))) ⊎ (answer ≡ refused Enomem) → IsReadDefined unique offset size content t.scarce (message_sent unique answer) why
@@ -149,12 +144,8 @@ module _ (s : Fuse) (a b : Told) (payload : List ℕ) (reply : Option FuseReply)
         (w.0, read_defined f offset size (trace_of (heard_of did.own) (failures_of did.own) a b) content (answer_by reply bytes) c (number_of (decoded payload)) row w.1);
   }
 
-  served_by : FuseIsRight (aim_of s (decoded payload)) a b (answer_by reply bytes)
+  pub message_served : FuseIsRight (aim_of s (decoded payload)) a b (answer_by reply bytes)
       → MessageIsServed (aim_of s (decoded payload)) (number_of (decoded payload)) a b (sent_if (message_frame reply) bytes) c
-  served_by right =
+  message_served right =
       subst (λ (z : Sent). MessageIsServed (aim_of s (decoded payload)) (number_of (decoded payload)) a b z c) (sym (message_sent_is (decoded payload) reply bytes number))
       (by_aim (aim_of s (decoded payload)) did.outcome right)
-
-  pub message_served : (g : Setting) (entropy : List ℕ) (parts : List Part) → FuseIsRight (aim_of s (decoded payload)) a b (answer_by reply bytes)
-      → RequestIsServed g (record { fuse = s; entropy = entropy; parts = parts }) (request_of (framed 0 payload)) a b (sent_if (message_frame reply) bytes) c
-  message_served g entropy parts right = rw request_is (served_by right)

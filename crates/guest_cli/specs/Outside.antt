@@ -8,9 +8,8 @@ use Rattle.guest_files.specs.declared.load.Refusal.TheVariants as refusal
 use Rattle.guest_files.specs.Files.{IsLoaded}
 use Rattle.guest_cli.specs.declared.session.SessionEnd.{SessionEnd}
 use Rattle.guest_cli.specs.declared.session.SessionEnd.TheVariants as end
-use Rattle.guest_cli.specs.declared.status.Form.TheVariants.{Frame}
 use Rattle.guest_cli.specs.declared.status.Status.{Status}
-use Rattle.guest_cli.specs.declared.status.Status.TheVariants.{Done, FileFault, StoreFault, ReadFault, WriteFault, BadFrame, TooMuch, Memory, Unbuilt}
+use Rattle.guest_cli.specs.declared.status.Status.TheVariants.{Done, FileFault, StoreFault, ReadFault, WriteFault, BadFrame, TooMuch, Memory}
 use Rattle.guest_cli.specs.Planned.{first_unbuilt}
 use Rattle.guest_cli.specs.Session.{Streams}
 
@@ -52,7 +51,6 @@ status_of (Err end.Read) = ReadFault
 status_of (Err end.Write) = WriteFault
 status_of (Err (end.BadFrame at)) = BadFrame at
 status_of (Err end.TooMuch) = TooMuch
-status_of (Err (end.Unbuilt at)) = Unbuilt Frame at
 
 -- what a refusal of a file is as a status
 abbrev pub refused : Refusal → Status

@@ -1,15 +1,15 @@
 -- How a session ends, and what it has done.
-use Rattle.std.specs.Prelude.{true, ◌≡◌, ◌≢◌, ℕ, ◌^◌, ◌+◌, ◌-◌, ◌<◌, ◌≤◌, List, [], ◌∷◌, ◌++◌, length, take, Option, Some, Result, Ok, Err, ◌⊎◌}
+use Rattle.std.specs.Prelude.{◌≡◌, ◌≢◌, ℕ, ◌^◌, ◌+◌, ◌-◌, ◌<◌, ◌≤◌, List, [], ◌∷◌, ◌++◌, length, take, Option, Some, Result, Ok, Err, ◌⊎◌}
 use Rattle.std.specs.Io.KnownBytes.{Appends, IsAtEnd}
 use Rattle.host_traits.specs.Streams.{SomePrefix}
 use Rattle.host_traits.specs.Told.{Told, Exchanges, heard_size}
 use Rattle.session_frames.specs.Frames.{Held, Fronts, IsCutOff, BeginsNone, bytes_of}
 use Rattle.session_frames.specs.Session.{Went, WentOver, Came}
 use Rattle.session_frames.specs.Replies.{reply_frame}
-use Rattle.guest_rules.specs.Machine.{Setting, State, Turn, is_unbuilt}
+use Rattle.guest_rules.specs.Machine.{Setting, State, Turn}
 use Rattle.guest_rules.specs.Run.{Runs, Ran, frames_of, out_bytes, log_bytes, log_line}
 use Rattle.guest_cli.specs.declared.session.SessionEnd.{SessionEnd}
-use Rattle.guest_cli.specs.declared.session.SessionEnd.TheVariants.{Read, Write, BadFrame, TooMuch, Unbuilt}
+use Rattle.guest_cli.specs.declared.session.SessionEnd.TheVariants.{Read, Write, BadFrame, TooMuch}
 use Rattle.guest_cli.specs.declared.session.Stop.{Stop}
 use Rattle.guest_cli.specs.declared.session.Stop.TheVariants as stop
 
@@ -30,10 +30,6 @@ limit = 2 ^ 30
 -- at least 2 ^ 30 bytes were heard
 abbrev pub HeardMuch : Told → Type 0
 HeardMuch told = (heard : Exchanges) → told.heard ≡ Some heard → limit ≤ heard_size heard
-
--- fewer were heard
-abbrev pub HeardFew : Told → Type 0
-HeardFew told = (heard : Exchanges) → told.heard ≡ Some heard → heard_size heard < limit
 
 -- Frames were answered in these turns and then in a last one, whose line or reply went out in part: all else was written.
 -- R says what the turns are.
@@ -63,14 +59,6 @@ pub record IsWhole (bytes : List ℕ) : Type 0 where
   pub rest : List ℕ
   pub fronts : Fronts bytes channel payload rest
 
--- a frame that isn't served yet
-pub record IsUnbuilt (bytes : List ℕ) : Type 0 where
-  pub channel : ℕ
-  pub payload : List ℕ
-  pub rest : List ℕ
-  pub fronts : Fronts bytes channel payload rest
-  pub is : is_unbuilt channel payload ≡ true
-
 -- the frame of a turn is whole in front
 pub record IsFront (bytes : List ℕ) (turn : Turn) : Type 0 where
   pub rest : List ℕ
@@ -80,7 +68,6 @@ pub record IsFront (bytes : List ℕ) (turn : Turn) : Type 0 where
 abbrev pub WhyStopped : Stop → Told → List ℕ → Type 0
 WhyStopped stop.Bad told held = BeginsNone held
 WhyStopped stop.TooMuch told held = HeardMuch told × IsWhole held
-WhyStopped stop.Unbuilt told held = HeardFew told × IsUnbuilt held
 WhyStopped stop.Write told held = ⊥
 
 -- what came of the frames at the front of what is held
@@ -111,14 +98,13 @@ abbrev pub IsMuch : Told → List ℕ → List ℕ → Type 0
 IsMuch told bytes front = (HeardMuch told × IsWhole front) ⊎ ((limit < length bytes) × IsCutOff front)
 
 -- Why a session ended, by the bytes that came, and by those within the limit that follow the frames that were answered. Ok: the
--- input was read to its end, at a frame's border. Read: what is left is no whole frame, and may become one. BadFrame and
--- Unbuilt: the next frame begins at this offset. TooMuch: a limit was reached.
+-- input was read to its end, at a frame's border. Read: what is left is no whole frame, and may become one. BadFrame: the
+-- next frame begins at this offset. TooMuch: a limit was reached.
 abbrev pub WhyEnded : Told → Option (List ℕ) → List ℕ → List ℕ → ℕ → Result (Unit {0}) SessionEnd → Type 0
 WhyEnded told left bytes front next (Ok _) = (front ≡ []) × IsAtEnd left × (length bytes ≤ limit)
 WhyEnded told left bytes front next (Err Read) = IsCutOff front × (length bytes ≤ limit)
 WhyEnded told left bytes front next (Err (BadFrame at)) = (at ≡ next) × IsBad left bytes front
 WhyEnded told left bytes front next (Err TooMuch) = IsMuch told bytes front
-WhyEnded told left bytes front next (Err (Unbuilt at)) = (at ≡ next) × HeardFew told × IsUnbuilt front
 WhyEnded told left bytes front next (Err Write) = ⊥
 
 -- A session that ended so: the frames that were answered are whole within the limit, and this is why no other was.
@@ -155,4 +141,3 @@ abbrev pub end_of : Stop → ℕ → SessionEnd
 end_of stop.Bad at = BadFrame at
 end_of stop.Write at = Write
 end_of stop.TooMuch at = TooMuch
-end_of stop.Unbuilt at = Unbuilt at

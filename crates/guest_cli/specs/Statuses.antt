@@ -5,7 +5,7 @@ use Rattle.text_lines.specs.Ends.{fault_words, file_end}
 use Rattle.guest_boot.specs.Wording.{boot_end}
 use Rattle.guest_rules.specs.Run.{space, line_feed}
 use Rattle.guest_cli.specs.declared.status.Form.{Form}
-use Rattle.guest_cli.specs.declared.status.Form.TheVariants.{Command, Plan, Frame}
+use Rattle.guest_cli.specs.declared.status.Form.TheVariants.{Command, Plan}
 use Rattle.guest_cli.specs.declared.status.Status.{Status}
 use Rattle.guest_cli.specs.declared.status.Status.TheVariants.{Done, Usage, PlanFault, FileFault, TapeFault, StoreFault, ReadFault, WriteFault, BadFrame, BootFault, TooMuch, Memory, Unbuilt}
 
@@ -27,7 +27,6 @@ status_number (Unbuilt form at) = 12
 abbrev pub form_word : Form → List ℕ
 form_word Command = codes "command"
 form_word Plan = codes "plan"
-form_word Frame = codes "frame"
 
 -- the end line without its line feed, of a status whose line has no name
 abbrev pub end_words : Status → List ℕ

@@ -3,7 +3,7 @@ ghost use Rattle.std.specs.Prelude.{◌≡◌, ◌≤◌, ◌<◌, ◌+◌, ◌*
 ghost use Rattle.std.specs.Int.{w32, w64, from_le_bytes};
 ghost use Rattle.session_frames.specs.Frames.{IsPayload};
 ghost use Rattle.session_frames.specs.Replies.{sent_if};
-ghost use Rattle.guest_rules.specs.Machine.{AreItems, item_read, request_of, is_unbuilt};
+ghost use Rattle.guest_rules.specs.Machine.{AreItems, item_read, request_of};
 ghost use Rattle.guest_rules.specs.Step.{Stepped};
 ghost use Rattle.guest_rules.specs.Faithful.{RequestIsServed};
 ghost use Rattle.guest_cli.specs.Turns.{framed};
@@ -191,8 +191,7 @@ fn answer_read<H: Host>(engine: &mut Engine, host: &mut H, payload: &[u8]) -> Fr
 
 // A message of FUSE, as one step of the machine.
 fn answer_message<H: Host>(engine: &mut Engine, host: &mut H, message: &[u8]) -> FrameAnswer
-    requires long { 40 ≤ length message.now }
-    requires built { is_unbuilt 0 message.now ≡ false }
+    requires { 40 ≤ length message.now }
     ensures setting { engine.new.setting ≡ engine.old.setting }
     ensures step { Stepped engine.old.setting engine.old.state engine.new.state
         (H.told host.old) (H.told host.new)
@@ -210,7 +209,7 @@ fn answer_message<H: Host>(engine: &mut Engine, host: &mut H, message: &[u8]) ->
     }
 }
 
-/// The work of one frame that is served: the reply, where there is one, and why it is a failure. A message of FUSE is answered as
+/// The work of one frame: the reply, where there is one, and why it is a failure. A message of FUSE is answered as
 /// `fuse_server` has it. A read of a measured item is answered with code 2 where there is no such item, else with 22 where its size
 /// is above 131,072, else with the bytes, or with 5 or 12. A get of a record is answered with 2 where there is none, else with its
 /// text, or with 5 or 12; a put with 2, 27 or 200, and else with 0, 5 or 12. Over a host that holds the item as it was measured, the
@@ -223,8 +222,7 @@ pub fn answer_frame<H: Host>(
     channel: u8,
     payload: &[u8],
 ) -> FrameAnswer
-    requires built { is_unbuilt channel payload.now ≡ false }
-    requires payload { IsPayload channel (length payload.now) }
+    requires { IsPayload channel (length payload.now) }
     ensures setting { engine.new.setting ≡ engine.old.setting }
     ensures step { Stepped engine.old.setting engine.old.state engine.new.state
         (H.told host.old) (H.told host.new)

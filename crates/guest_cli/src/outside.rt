@@ -24,10 +24,6 @@ pub(crate) fn made_status(ended: Result<(), SessionEnd>) -> Status
         Err(SessionEnd::Write) => Status::WriteFault,
         Err(SessionEnd::BadFrame { at }) => Status::BadFrame { at },
         Err(SessionEnd::TooMuch) => Status::TooMuch,
-        Err(SessionEnd::Unbuilt { at }) => Status::Unbuilt {
-            form: Form::Frame,
-            at,
-        },
     }
 }
 

@@ -1,11 +1,11 @@
 // Frames, one after another, from a stream that comes in pieces.
-ghost use Rattle.std.specs.Prelude.{◌≡◌, ◌≤◌, ◌<◌, ◌+◌, ◌^◌, ℕ, List, [], false, length, OnOk, OnErr, ◌⊎◌};
+ghost use Rattle.std.specs.Prelude.{◌≡◌, ◌≤◌, ◌<◌, ◌+◌, ◌^◌, ℕ, List, [], length, OnOk, OnErr, ◌⊎◌};
 ghost use Rattle.std.specs.Io.KnownBytes.{Appends};
 ghost use Rattle.host_traits.specs.Streams.{SomePrefix, HasCause};
 ghost use Rattle.host_traits.specs.Told.{Rose};
 ghost use Rattle.session_frames.specs.Frames.{IsPayload, Fronts, IsCutOff};
 ghost use Rattle.session_frames.specs.Replies.{sent_if, reply_frame};
-ghost use Rattle.guest_rules.specs.Machine.{Turn, is_unbuilt};
+ghost use Rattle.guest_rules.specs.Machine.{Turn};
 ghost use Rattle.guest_rules.specs.Run.{Runs, log_line};
 ghost use Rattle.guest_cli.specs.Turns.{TurnOutcome};
 ghost use Rattle.guest_cli.specs.Session.{HeldOutcome, PieceOutcome, IsSession, end_of};
@@ -31,8 +31,6 @@ pub enum SessionEnd {
     BadFrame { at: u64 },
     /// More than 2^30 bytes came, or at least so many were heard before a frame was answered.
     TooMuch,
-    /// At this offset begins a frame that isn't served yet: of channel 0 with the operation OPENDIR, READDIR or RELEASEDIR.
-    Unbuilt { at: u64 },
 }
 
 // Why the frames at the front were not all answered.
@@ -41,18 +39,6 @@ enum Stop {
     Bad,
     Write,
     TooMuch,
-    Unbuilt,
-}
-
-// Is it a frame that isn't served yet?
-fn is_unbuilt(channel: u8, payload: &[u8]) -> bool
-    requires { 16 ≤ length payload.now }
-    ensures { result ≡ is_unbuilt channel payload.now }
-{
-    let mut opcode = [0; 4];
-    opcode.copy_from_slice(&payload[4..8]);
-    let opcode = u32::from_le_bytes(opcode);
-    channel == 0 && (27 <= opcode && opcode <= 29)
 }
 
 // Writes the line of a cause, where there is one.
@@ -101,8 +87,7 @@ fn turn<H: Host, K: Sink, L: Sink>(
     out: &mut K,
     log: &mut L,
 ) -> Result<(), Failed>
-    requires built { is_unbuilt channel payload.now ≡ false }
-    requires payload { IsPayload channel (length payload.now) }
+    requires { IsPayload channel (length payload.now) }
     ensures setting { engine.new.setting ≡ engine.old.setting }
     ensures turn { TurnOutcome engine.old.setting engine.old.state engine.new.state
         (H.told host.old) (H.told host.new) at
@@ -148,9 +133,6 @@ fn answer_held<H: Host, K: Sink, L: Sink>(
         };
         if host.heard_bytes() >= LIMIT {
             return Err(Stop::TooMuch);
-        }
-        if is_unbuilt(channel, payload) {
-            return Err(Stop::Unbuilt);
         }
         match turn(
             alloc,
@@ -210,7 +192,6 @@ fn ended(stop: Stop, at: u64) -> SessionEnd
         Stop::Bad => SessionEnd::BadFrame { at },
         Stop::Write => SessionEnd::Write,
         Stop::TooMuch => SessionEnd::TooMuch,
-        Stop::Unbuilt => SessionEnd::Unbuilt { at },
     }
 }
 

@@ -15,8 +15,6 @@ pub enum Form {
     Command,
     /// A line of the plan.
     Plan,
-    /// A frame of the stream.
-    Frame,
 }
 
 /// How a run ended.
@@ -46,7 +44,7 @@ pub enum Status {
     TooMuch,
     /// Want of memory.
     Memory,
-    /// What isn't served yet stands here: in the words, in this line of the plan, or at this offset of the stream.
+    /// What isn't served yet stands here: in the words, or in this line of the plan.
     Unbuilt { form: Form, at: u64 },
 }
 
@@ -79,7 +77,6 @@ fn form_word(form: Form) -> &'static [u8]
     match form {
         Form::Command => b"command",
         Form::Plan => b"plan",
-        Form::Frame => b"frame",
     }
 }
 

@@ -29,7 +29,7 @@ use Rattle.guest_names.specs.Promises.{IsPlannedFile}
 use Rattle.guest_names.proofs.Making.{files_opened}
 use Rattle.instance_image.specs.declared.values.Part.{Part}
 use Rattle.instance_image.specs.Sealings.{Sealing}
-use Rattle.guest_rules.specs.Machine.{Instance, Setting, State, World, Moment, Turn, ItemRead, Request, message_of, read_of, get_of, put_of, unbuilt, request_of}
+use Rattle.guest_rules.specs.Machine.{Instance, Setting, State, World, Moment, Turn, ItemRead, Request, message_of, read_of, get_of, put_of, request_of}
 use Rattle.guest_rules.specs.RecordRow.{GetRow, no_image, got, PutRow, no_image as put_no_image, refused, no_entropy, put}
 use Rattle.guest_rules.specs.ItemRow.{ItemRow, no_item, too_large, served, blamed, no_memory}
 use Rattle.guest_rules.specs.Step.{Step, Row, trace}
@@ -150,7 +150,6 @@ module _ (plan : Known) (h : Held) (world : World) (booted : Exchanges) (new : B
   turn_none : (g : Setting) (old : Moment) (turn : Turn) (mid : Moment) → g.items ≡ new.items → old.state.fuse.files ≡ files_at_boot plan.lines new.files → (request : Request) → request_of turn.frame ≡ request
       → AsksNoRecord g request → Row g world old.sealings (trace old turn mid) request old.state mid.state turn.sent turn.cause → IsItemServed plan.lines world h Stays turn → IsFileServed plan.lines world h old turn
       → turn.cause ≡ None
-  turn_none g old turn mid items same unbuilt is asks row item file = absurd row
   turn_none g old turn mid items same (get_of uuid) is asks row item file = get_none g.image old.state.parts world old.sealings (trace old turn mid) uuid turn.sent turn.cause asks row.1
   turn_none g old turn mid items same (put_of uuid text) is asks row item file = put_none g.image (trace old turn mid) uuid text old.state mid.state turn.sent turn.cause asks row
   turn_none g old turn mid items same (read_of r) is asks row item file =

@@ -13,7 +13,7 @@ use Rattle.instance_image.specs.Promised.{PutStands, PutLeaves}
 use Rattle.instance_image.specs.Sealings.{Sealing}
 use Rattle.instance_image.proofs.Others.{others_kept, put_right}
 use Rattle.instance_image.proofs.Promises.{none_answered}
-use Rattle.guest_rules.specs.Machine.{Instance, Setting, State, World, Moment, Turn, Request, request_of, message_of, read_of, get_of, put_of, unbuilt, image_with}
+use Rattle.guest_rules.specs.Machine.{Instance, Setting, State, World, Moment, Turn, Request, request_of, message_of, read_of, get_of, put_of, image_with}
 use Rattle.guest_rules.specs.RecordRow.{PutRow, no_image, refused, no_entropy, put, put_code, nonce_of}
 use Rattle.guest_rules.specs.Step.{Step, Row, trace}
 use Rattle.guest_laws.specs.Sessions.{WritesNone, RecordStands, IsRecordKept}
@@ -101,4 +101,3 @@ record_kept Imaged g world old turn new step laid imaged i uuid z image unput r 
   by_request (put_of u text) is =
       put_leaves g world old turn new step i u text is image (laid_in g.image i old.state.parts image (laid imaged)) uuid z
       (λ sent same. unput text (is ∙ ap (λ (x : List ℕ). put_of x text) (sym same)) sent) r
-  by_request unbuilt is = absurd (row_at unbuilt is)

@@ -20,7 +20,7 @@ use Rattle.instance_image.proofs.Accesses.{fits_found, put_lies}
 use Rattle.instance_image.proofs.Openings.{steps}
 use Rattle.instance_image.proofs.Laying.{end_of, end_more, laid_none, laid_on, sized_laid, found_lies}
 use Rattle.guest_boot.specs.Finding.{part_of}
-use Rattle.guest_rules.specs.Machine.{Instance, Setting, State, World, Request, message_of, read_of, get_of, put_of, unbuilt, image_with}
+use Rattle.guest_rules.specs.Machine.{Instance, Setting, State, World, Request, message_of, read_of, get_of, put_of, image_with}
 use Rattle.guest_rules.specs.RecordRow.{PutRow, no_image, refused, no_entropy, put}
 use Rattle.guest_rules.specs.Step.{Row}
 use Rattle.guest_laws.specs.Fitting.{HoldsInstance}
@@ -108,4 +108,3 @@ row_laid g world run t (message_of m) old new sent cause row l = same_parts g.im
 row_laid g world run t (read_of r) old new sent cause row l = same_parts g.image old.parts new.parts (ap (λ (s : State). s.parts) row.0) l
 row_laid g world run t (get_of uuid) old new sent cause row l = same_parts g.image old.parts new.parts (ap (λ (s : State). s.parts) row.0) l
 row_laid g world run t (put_of uuid text) old new sent cause row l = put_laid g.image t uuid text old new sent cause row l
-row_laid g world run t unbuilt old new sent cause row l = absurd row

@@ -1,9 +1,10 @@
 -- Names of the root lead where they led, and the files stay.
-use Rattle.std.proofs.Common.{◌≡◌, ◌∙◌, ◌+◌, ◌-◌, if◌then◌else◌, ℕ, Bool, true, false, cond, List, [], ◌∷◌, Option, Some, None, Result, Ok, Err, refl, sym, ap, subst, arith}
-use Rattle.std.specs.Prelude.{◌==◌, ◌||◌, is_some, nat_eq, nat_lt}
+use Rattle.std.proofs.Common.{◌≡◌, ◌∙◌, ◌+◌, ◌-◌, if◌then◌else◌, ℕ, Bool, true, false, cond, List, [], ◌∷◌, ◌++◌, length, map, append_assoc, Option, Some, None, Result, Ok, Err, refl, sym, ap, subst, arith}
+use Rattle.std.specs.Prelude.{◌==◌, ◌||◌, is_some, nat_eq, nat_lt, slice_get}
 use Rattle.std.specs.Option.{option_map}
 use Rattle.std.specs.FinMap as table
 use Rattle.std.proofs.lemmas.Bool.Decides.{nat_tests}
+use Rattle.std.proofs.lemmas.List.{length-append}
 use Rattle.mg_base.specs.declared.errno.Errno.{Errno}
 use Rattle.mg_base.specs.declared.errno.Errno.TheVariants.{Enoent}
 use Rattle.host_traits.specs.Did.{Trace}
@@ -11,6 +12,7 @@ use Rattle.session_frames.specs.Replies.{Sent}
 use Rattle.verity_path.specs.declared.device.Cause.{Cause}
 use Rattle.authfs_dirs.specs.declared.kind.Kind.{Kind}
 use Rattle.authfs_dirs.specs.Names.{Entry, Node, NodeMap, Names, node_at, kind_at, changed, settled, lives, is_dir, directory, found, node_named, one_more, with_lookups, with_pins, looked_up, forgotten, pinned, unpinned, cleared, reset_node, IsReset, lookup_check}
+use Rattle.authfs_dirs.specs.Dirents.{Dirent, dirent, kind_number, dot, dot_dot, dirents, above, whole, listing}
 use Rattle.authfs_dirs.specs.Tree.{IsRoot, IsChild}
 use Rattle.authfs_dirs.proofs.TreeLemmas.{get_changed, get_settled, kept}
 use Rattle.authfs_dirs.proofs.TreeLaws.{finds_children}
@@ -19,17 +21,18 @@ use Rattle.fuse_codec.specs.Reply as reply
 use Rattle.fuse_codec.specs.Reply.{Answer}
 use Rattle.fuse_server.specs.State.{State as Fuse}
 use Rattle.fuse_server.specs.Effects.{Change, nothing, initialises, counts, forgets, forgets_all, opens, closes, destroys, change_of, Changed, Next, UnlessRefused, counted, all_forgotten}
-use Rattle.guest_names.specs.Standing.{file_count, names_at_boot}
+use Rattle.guest_names.specs.Standing.{NamedFile, files_in, file_count, names_at_boot}
 use Rattle.guest_names.specs.Promises.{StandsSound}
 use Rattle.guest_names.proofs.Making.{counted as files_counted}
+use Rattle.guest_names.proofs.Nodes.{entries_from, root_of, node_of, ArePlanted, planted_from_first, place_at}
 use Rattle.guest_names.proofs.Sound.{names_found, no_other, boots_sound}
 use Rattle.instance_image.specs.Sealings.{Sealing}
-use Rattle.guest_rules.specs.Machine.{Setting, State, World, Moment, moment, Turn, Request, message_of, read_of, get_of, put_of, unbuilt, request_of}
+use Rattle.guest_rules.specs.Machine.{Setting, State, World, Moment, moment, Turn, Request, message_of, read_of, get_of, put_of, request_of}
 use Rattle.guest_rules.specs.Step.{Row}
 use Rattle.guest_rules.specs.Run.{Run}
 use Rattle.guest_rules.proofs.Standing.{files_kept, put_keeps}
 use Rattle.guest_cli.specs.Booted.{first_state}
-use Rattle.guest_laws.specs.Naming.{NamesStay}
+use Rattle.guest_laws.specs.Naming.{NamesStay, file_dirents}
 
 -- ---- the root and what has a name
 
@@ -187,7 +190,6 @@ row_keeps g world run t (message_of m) old new sent cause row = next_keeps old.f
 row_keeps g world run t (read_of r) old new sent cause row = same_state old.fuse new.fuse (ap (λ (s : State). s.fuse) row.0)
 row_keeps g world run t (get_of uuid) old new sent cause row = same_state old.fuse new.fuse (ap (λ (s : State). s.fuse) row.0)
 row_keeps g world run t (put_of uuid text) old new sent cause row = same_state old.fuse new.fuse (put_keeps g.image t uuid text old new sent cause row)
-row_keeps g world run t unbuilt old new sent cause row = absurd row
 
 module _ (g : Setting) (world : World) where
   run_keeps : (old : Moment) (turns : List Turn) (new : Moment) → Run g world old turns new → KeepsNames old.state.fuse new.state.fuse
@@ -230,6 +232,30 @@ module _ (s new : Fuse) (root : IsRoot (node_at s.names)) (keeps : KeepsNames s 
       let y = keeps n child.node child.there (named_stands n child.node p child.within) in
       ap kind_of y.1 ∙ ap (λ (k : Kind). Some k) y.2.kind ∙ sym (ap kind_of child.there)
 
+-- ---- what is listed
+
+module _ (s new : Fuse) (files : List NamedFile) (planted : ArePlanted s.names files) (keeps : KeepsNames s new) where
+  -- a name is still that of a file
+  file_kind : (k : ℕ) (f : NamedFile) → slice_get files k ≡ Some f → kind_number (table.get new.names.nodes (k + 2)) ≡ 8
+  unfolding Keeps
+  file_kind k f at =
+      let y = keeps (k + 2) (node_of f) (planted.nodes k f at) (named_stands (k + 2) (node_of f) 1 refl) in
+      ap kind_number y.1 ∙ ap (λ (kind : Kind). if is_dir kind then 4 else 8) y.2.kind
+
+  entries_listed : (before after : List NamedFile) (c n : ℕ) → files ≡ before ++ after → n ≡ length before + 2 → map (dirent new.names.nodes) (entries_from c n after) ≡ file_dirents c n after
+  entries_listed before [] c n cut is = refl
+  entries_listed before (f ∷ after) c n cut is =
+      let at : slice_get files (length before) ≡ Some f = subst (λ (fs : List NamedFile). slice_get fs (length before) ≡ Some f) (sym cut) (place_at before after f) in
+      let kind : kind_number (table.get new.names.nodes n) ≡ 8 = subst (λ (k : ℕ). kind_number (table.get new.names.nodes k) ≡ 8) (sym is) (file_kind (length before) f at) in
+      let rest = entries_listed (before ++ f ∷ []) after (c + 1) (n + 1) (cut ∙ sym (append_assoc before (f ∷ []) after)) (omega (arith, is, length-append before (f ∷ []))) in
+      rw (kind, rest) refl
+
+  root_listed : (cookie size : ℕ) → listing new.names.nodes 1 cookie size ≡ whole size (above cookie (dot 1 ∷ dot_dot 1 None ∷ file_dirents 3 2 files))
+  unfolding Keeps listing dirents
+  root_listed cookie size =
+      let y = keeps 1 (root_of files) planted.root refl in
+      rw (y.1, y.2.parent, y.2.entries, entries_listed [] files 3 2 refl refl) refl
+
 pub names_stay : NamesStay
 names_stay text plan own o entropy g world told heard sealings turns new spelled boot run = record {
   names = λ before name file digest is.
@@ -237,6 +263,7 @@ names_stay text plan own o entropy g world told heard sealings turns new spelled
       let child = finds_children names 1 (file_count before + 2) name sound.sound at_first.0 in
       (name_kept first now sound.sound.tree.root keeps name ∙ at_first.0, kind_kept first now sound.sound.tree.root keeps (file_count before + 2) 1 child ∙ at_first.1);
   others = λ name node is. no_other plan.lines name node (sym (name_kept first now sound.sound.tree.root keeps name) ∙ is);
+  listed = root_listed first now (files_in plan.lines) (planted_from_first (files_in plan.lines)) keeps;
   files = run_files g world start turns new run;
 } where
   start : Moment

@@ -19,7 +19,7 @@ use Rattle.fuse_server.specs.Rows.{IsForFuse}
 use Rattle.instance_image.specs.declared.values.Part.{Part}
 use Rattle.instance_image.specs.Records.{sectors_of}
 use Rattle.instance_image.specs.Access.{payload_size}
-use Rattle.guest_rules.specs.Machine.{Instance, Setting, State, World, Moment, Turn, Request, request_of, message_of, read_of, get_of, put_of, unbuilt}
+use Rattle.guest_rules.specs.Machine.{Instance, Setting, State, World, Moment, Turn, Request, request_of, message_of, read_of, get_of, put_of}
 use Rattle.guest_rules.specs.RecordRow.{IsForGet, IsForPut}
 use Rattle.guest_rules.specs.Step.{Step, IsFor}
 use Rattle.guest_rules.proofs.Holding.{IsReading, of_blocks, keeps_one, reads_keep, pair_is, when_is}
@@ -47,7 +47,6 @@ is_read g s (read_of r) call given unwritten f =
     (subst IsReading (sym p.call_is) (page_reads it.layout it.measure.blocks p.level (ancestor f.2.0.block p.level)), f.2.1)
 is_read g s (get_of uuid) call given unwritten f = get_read g.image s.parts uuid call given f
 is_read g s (put_of uuid text) call given unwritten f = absurd (subst (λ (i : Option Instance). IsForPut i s uuid text call given) unwritten f)
-is_read g s unbuilt call given unwritten f = absurd f
 
 -- a turn that writes nothing changes nothing that is held
 pub step_keeps : (g : Setting) (world : World) (old : Moment) (turn : Turn) (new : Moment) (h : Held) → WritesNone g (request_of turn.frame) → Step g world old turn new → old.told.held ≡ Some h → new.told.held ≡ Some h
@@ -109,7 +108,6 @@ touches g s (message_of m) call given f = inl (is_read g s (message_of m) call g
 touches g s (read_of r) call given f = inl (is_read g s (read_of r) call given tt f)
 touches g s (get_of uuid) call given f = inl (is_read g s (get_of uuid) call given tt f)
 touches g s (put_of uuid text) call given f = inr (put_writes g.image s uuid text call given f)
-touches g s unbuilt call given f = absurd f
 
 pub step_same : (g : Setting) (world : World) (old : Moment) (turn : Turn) (new : Moment) (h : Held) → Step g world old turn new → old.told.held ≡ Some h
     → (k : Held) × (new.told.held ≡ Some k) × IsSameBut g.image h k

@@ -18,7 +18,7 @@ use Rattle.guest_plan.specs.Plans.{Known}
 use Rattle.guest_plan.specs.declared.plan.PlanLine.{PlanLine}
 use Rattle.guest_plan.specs.declared.plan.PlanLine.TheVariants as line
 use Rattle.guest_boot.specs.declared.faults.BootFault.{BootFault}
-use Rattle.guest_rules.specs.Machine.{Instance, Setting, World, nowhere, Moment, moment, Turn, ItemRead, Request, message_of, read_of, get_of, put_of, unbuilt, request_of, image_with}
+use Rattle.guest_rules.specs.Machine.{Instance, Setting, World, nowhere, Moment, moment, Turn, ItemRead, Request, message_of, read_of, get_of, put_of, request_of, image_with}
 use Rattle.guest_rules.specs.Step.{Step}
 use Rattle.guest_rules.specs.Run.{IsEarly, IsWorld, AreSealed, calls_of}
 use Rattle.guest_rules.specs.Faithful.{IsDefined, IsReadDefined}
@@ -34,7 +34,6 @@ WritesNone g (message_of m) = Unit {0}
 WritesNone g (read_of r) = Unit {0}
 WritesNone g (get_of uuid) = Unit {0}
 WritesNone g (put_of uuid text) = g.image ≡ None
-WritesNone g unbuilt = Unit {0}
 
 -- a request that asks an instance image for no record: any but a get or a put where there is one
 abbrev pub AsksNoRecord : Setting → Request → Type 0
@@ -42,7 +41,6 @@ AsksNoRecord g (message_of m) = Unit {0}
 AsksNoRecord g (read_of r) = Unit {0}
 AsksNoRecord g (get_of uuid) = g.image ≡ None
 AsksNoRecord g (put_of uuid text) = g.image ≡ None
-AsksNoRecord g unbuilt = Unit {0}
 
 -- no turn writes to the host
 abbrev pub AreUnwritten : Setting → List Turn → Type 0

@@ -65,8 +65,8 @@ pub fn mismatches_lie()
 {}
 
 /// Behind each run from the state after boot, each name of a plan's `file` line leads to its node, a read-only file with the
-/// line's number; no other name is found in the root; and the files are those that boot opened. Its contract is the law; it does
-/// nothing.
+/// line's number; no other name is found in the root; the root lists these names, and no others; and the files are those that
+/// boot opened. Its contract is the law; it does nothing.
 pub fn names_stay()
     ensures { NamesStay }
 {}

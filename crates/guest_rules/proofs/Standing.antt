@@ -33,7 +33,7 @@ use Rattle.instance_image.specs.declared.values.Part.{Part}
 use Rattle.instance_image.specs.Sealings.{Sealing}
 use Rattle.instance_image.specs.Access.{GetOutcome}
 use Rattle.instance_image.proofs.Promises.{was_sealed}
-use Rattle.guest_rules.specs.Machine.{Instance, Setting, State, World, Salted, nowhere, Moment, Turn, ItemRead, Request, message_of, read_of, get_of, put_of, unbuilt, request_of, size_of, image_with}
+use Rattle.guest_rules.specs.Machine.{Instance, Setting, State, World, Salted, nowhere, Moment, Turn, ItemRead, Request, message_of, read_of, get_of, put_of, request_of, size_of, image_with}
 use Rattle.guest_rules.specs.ItemRow.{ItemRow, no_item, too_large, served, blamed, no_memory}
 use Rattle.guest_rules.specs.MessageRow.{MessageRow, IsSliceOf, IsOfFile}
 use Rattle.guest_rules.specs.RecordRow.{GetRow, PutRow, no_image, got, refused as put_refused, no_entropy, put, IsKnownText}
@@ -247,7 +247,6 @@ module _ (g : Setting) (world : World) where
     row_in run t (read_of r) new sent cause same w sealed row = (row.0, item_in t r sent cause w.items (known_item_apart t w) row.1)
     row_in run t (get_of uuid) new sent cause same w sealed row = (row.0, get_in run t uuid sent cause sealed row.1)
     row_in run t (put_of uuid text) new sent cause same w sealed row = row
-    row_in run t unbuilt new sent cause same w sealed row = absurd row
 
 -- a put changes no name, no handle and no file
 pub put_keeps : (image : Option Instance) (t : Trace) (uuid text : List ℕ) (old new : State) (sent : Sent) (cause : Option Cause) → PutRow image t uuid text old new sent cause
@@ -264,7 +263,6 @@ files_kept g world run t (message_of m) old new sent cause row = files_stay old.
 files_kept g world run t (read_of r) old new sent cause row = ap (λ (s : State). s.fuse.files) row.0
 files_kept g world run t (get_of uuid) old new sent cause row = ap (λ (s : State). s.fuse.files) row.0
 files_kept g world run t (put_of uuid text) old new sent cause row = ap (λ (f : Fuse). f.files) (put_keeps g.image t uuid text old new sent cause row)
-files_kept g world run t unbuilt old new sent cause row = absurd row
 
 -- what is hashed in one state is hashed in another of the same files
 back : (g : Setting) (s t : State) (world : World) (heard : Exchanges) → t.fuse.files ≡ s.fuse.files → (x : List ℕ) → IsRunHashed g t world heard x → IsRunHashed g s world heard x

@@ -17,7 +17,7 @@ use Rattle.instance_image.specs.declared.faults.PutFault.{PutFault}
 use Rattle.instance_image.specs.declared.values.Part.{Part}
 use Rattle.instance_image.specs.Records.{fits_in}
 use Rattle.instance_image.specs.Promised.{RecordIsGot, PutIsKept}
-use Rattle.guest_rules.specs.Machine.{Instance, Setting, State, World, Salted, Moment, Turn, ItemRead, Request, message_of, request_of, read_of, get_of, put_of, unbuilt, IsItem, size_of, image_with}
+use Rattle.guest_rules.specs.Machine.{Instance, Setting, State, World, Salted, Moment, Turn, ItemRead, Request, message_of, request_of, read_of, get_of, put_of, IsItem, size_of, image_with}
 use Rattle.guest_rules.specs.RecordRow.{get_sent, get_cause, put_code, put_cause, nonce_of}
 use Rattle.guest_rules.specs.Step.{Step}
 use Rattle.guest_rules.specs.Run.{IsWorld, AreOpened, IsFile}
@@ -110,4 +110,3 @@ RequestIsServed g s (message_of m) old new sent cause = MessageIsServed (aim_of 
 RequestIsServed g s (read_of r) old new sent cause = ItemIsServed g old new r sent cause
 RequestIsServed g s (get_of uuid) old new sent cause = GetIsServed g.image s.parts uuid old new sent cause
 RequestIsServed g s (put_of uuid text) old new sent cause = PutIsServed g.image s uuid text old new sent cause
-RequestIsServed g s unbuilt old new sent cause = ⊥

@@ -1,5 +1,5 @@
 -- The machine, its requests, and a moment of a run.
-use Rattle.std.specs.Prelude.{Bool, ◌≡◌, ◌&&◌, nat_le, ℕ, ◌*◌, ◌≤◌, List, take, drop, slice_get, Option, Some, None, Result, ◌==◌, if◌then◌else◌}
+use Rattle.std.specs.Prelude.{◌≡◌, ℕ, ◌*◌, ◌≤◌, List, take, drop, slice_get, Option, Some, None, Result, ◌==◌, if◌then◌else◌}
 use Rattle.std.specs.Int.{w32, w64, from_le_bytes}
 use Rattle.host_traits.specs.Told.{Told, Exchanges, Made}
 use Rattle.session_frames.specs.Frames.{Framed}
@@ -60,22 +60,12 @@ pub record ItemRead : Type 0 where
 abbrev pub item_read : List ℕ → ItemRead
 item_read payload = record { item = from_le_bytes w32 (take 4 payload); offset = from_le_bytes w64 (take 8 (drop 4 payload)); size = from_le_bytes w32 (take 4 (drop 12 payload)) }
 
--- a message of FUSE, or what is wrong with it; a read of an item; a get of the record of a UUID; a put of a text into it; or what
--- isn't served yet
+-- a message of FUSE, or what is wrong with it; a read of an item; a get of the record of a UUID; a put of a text into it
 pub data Request : Type 0 where
   message_of : Result Message Bad → Request
   read_of : ItemRead → Request
   get_of : (uuid : List ℕ) → Request
   put_of : (uuid text : List ℕ) → Request
-  unbuilt : Request
-
--- the operation that a message names, whatever else is wrong with it
-abbrev pub opcode_in : List ℕ → ℕ
-opcode_in payload = from_le_bytes w32 (take 4 (drop 4 payload))
-
--- what isn't served yet: of channel 0 the operations 27 to 29 (OPENDIR, READDIR and RELEASEDIR)
-abbrev pub is_unbuilt : ℕ → List ℕ → Bool
-is_unbuilt channel payload = (channel == 0) && (nat_le 27 (opcode_in payload) && nat_le (opcode_in payload) 29)
 
 -- the request of a frame of a channel: a UUID has 16 bytes, and the text of a put follows it. There is no fifth channel.
 abbrev pub request_on : ℕ → List ℕ → Request
@@ -86,9 +76,9 @@ request_on channel payload =
     else if channel == 3 then put_of (take 16 payload) (drop 16 payload)
     else unbuilt
 
--- the request of a frame, where it is served
+-- the request of a frame
 abbrev pub request_of : Framed → Request
-request_of f = if is_unbuilt f.channel f.payload then unbuilt else request_on f.channel f.payload
+request_of f = request_on f.channel f.payload
 
 -- a moment of a run: the machine, all that was heard, what this run has sealed, and what the host tells
 pub record Moment : Type 0 where

@@ -11,7 +11,7 @@ use Rattle.verity_path.specs.Range.{most_answers}
 use Rattle.fuse_server.specs.Aims.{aim_of}
 use Rattle.fuse_server.specs.Rows.{IsForFuse, most_for_fuse}
 use Rattle.instance_image.specs.Sealings.{Sealing}
-use Rattle.guest_rules.specs.Machine.{Setting, State, ItemRead, Request, message_of, read_of, get_of, put_of, unbuilt, request_of, Moment, moment, Turn, World, nowhere, size_of}
+use Rattle.guest_rules.specs.Machine.{Setting, State, ItemRead, Request, message_of, read_of, get_of, put_of, request_of, Moment, moment, Turn, World, nowhere, size_of}
 use Rattle.guest_rules.specs.ItemRow.{IsForItem, ItemRow}
 use Rattle.guest_rules.specs.MessageRow.{MessageRow}
 use Rattle.guest_rules.specs.RecordRow.{GetRow, PutRow, IsForGet, IsForPut, put_sealings}
@@ -22,7 +22,6 @@ IsFor g s (message_of m) call given = reads (IsForFuse (aim_of s.fuse m)) call g
 IsFor g s (read_of r) call given = (it : Device) × (slice_get g.items r.item ≡ Some it) × reads (IsForItem it r) call given
 IsFor g s (get_of uuid) call given = IsForGet g.image s.parts uuid call given
 IsFor g s (put_of uuid text) call given = IsForPut g.image s uuid text call given
-IsFor g s unbuilt call given = ⊥
 
 -- the most calls that a request makes, failed ones counted
 abbrev pub answers_of : Option Device → ItemRead → ℕ
@@ -34,7 +33,6 @@ most_for g s (message_of m) = most_for_fuse (aim_of s.fuse m)
 most_for g s (read_of r) = answers_of (slice_get g.items r.item) r
 most_for g s (get_of uuid) = 1
 most_for g s (put_of uuid text) = 1
-most_for g s unbuilt = 0
 
 -- what a request seals: a put alone seals, and one text at most
 abbrev pub seals : Setting → State → Request → List Sealing
@@ -42,7 +40,6 @@ seals g s (message_of m) = []
 seals g s (read_of r) = []
 seals g s (get_of uuid) = []
 seals g s (put_of uuid text) = put_sealings g.image s uuid text
-seals g s unbuilt = []
 
 -- The reply, its cause and the new state of a request, in a world and behind what this run has sealed. A message takes no entropy
 -- and changes no partition; a read or a get changes nothing; a put changes no name and no handle.
@@ -51,7 +48,6 @@ Row g world run t (message_of m) old new sent cause = (new.entropy ≡ old.entro
 Row g world run t (read_of r) old new sent cause = (new ≡ old) × ItemRow g.items world t r sent cause
 Row g world run t (get_of uuid) old new sent cause = (new ≡ old) × GetRow g.image old.parts world run t uuid sent cause
 Row g world run t (put_of uuid text) old new sent cause = PutRow g.image t uuid text old new sent cause
-Row g world run t unbuilt old new sent cause = ⊥
 
 -- the answers to a turn's own calls, and how many of its calls failed: what was heard before says nothing of its reply
 abbrev pub trace : Moment → Turn → Moment → Trace

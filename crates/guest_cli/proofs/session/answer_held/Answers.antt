@@ -1,7 +1,7 @@
-use Rattle.std.proofs.Common.{[], ◌∙◌, refl, sym, ap, arith, length}
+use Rattle.std.proofs.Common.{[], ◌∙◌, refl, ap, arith, length}
 use Rattle.session_frames.specs.Frames.{Held}
 use Rattle.session_frames.proofs.Heads.{length_of_held}
-use Rattle.guest_cli.proofs.Sessions.{few_heard, is_early, held_start, held_next, held_stop}
+use Rattle.guest_cli.proofs.Sessions.{is_early, held_start, held_next, held_stop}
 use Rattle.guest_cli.proofs.session.answer_held.Goals as goal
 
 pub loop-channel-init : goal.loop-channel-init
@@ -34,18 +34,5 @@ loop-channel-preserved g c =
       logs = omega (arith, c.loop-channel.invariant.logs, c.in-Ok.ensures.log);
     }
 
-pub returns-then-is_unbuilt-clause-held : goal.returns-then-is_unbuilt-clause-held
-returns-then-is_unbuilt-clause-held g c =
-    let so = c.loop-channel.invariant.answered in
-    let f = c.in-Frame.ensures in
-    let few = few_heard (g.H.Host.told c.loop-channel.host) c.heard_bytes.result c.heard_bytes.ensures c.if-heard_bytes-ge-LIMIT.false in
-    (so.0, so.1, (few, record { channel = c.in-Frame.channel; payload = c.in-Frame.payload.now; rest = f.0; fronts = f.1; is = sym c.is_unbuilt.ensures ∙ c.if-is_unbuilt.true }))
-
-pub is_unbuilt-requires : goal.is_unbuilt-requires
-is_unbuilt-requires g c = let s = c.in-Frame.ensures.1.suits.least in s
-
-pub turn-requires-clause-built : goal.turn-requires-clause-built
-turn-requires-clause-built g c = sym c.is_unbuilt.ensures ∙ c.if-is_unbuilt.false
-
-pub turn-requires-clause-payload : goal.turn-requires-clause-payload
-turn-requires-clause-payload g c = c.in-Frame.ensures.1.suits
+pub turn-requires : goal.turn-requires
+turn-requires g c = c.in-Frame.ensures.1.suits
