@@ -442,6 +442,36 @@ def ends():
                        ran("replay plan tape entropy", 7, b"", "end 7 frame 0\n", framed(0, message)[:-1]))
 
 
+# A session that was worked out by another program, which knows the kernel's header: opcode, node, body and reply of each message.
+WORKED_OUT = [
+    (26, 0, "07000000260000000000020021000000", "50" + 15 * "00" + "070000001f000000000002002000000010000c000000020001" + 39 * "00"),  # INIT 7.38
+    (1, 1, "6100",  # LOOKUP a
+     "9000000000000000010000000000000002" + 39 * "00" + "0200000000000000050000000000000001" + 43 * "00" + "2481000001" + 16 * "00" +
+     "10000000000000"),
+    (14, 2, 8 * "00", "2000000000000000020000000000000001" + 15 * "00"),  # OPEN
+    (15, 2, "010000000000000001" + 9 * "00" + "02" + 21 * "00", "14000000000000000300000000000000656c6c6f"),  # READ
+    (15, 2, "01" + 15 * "00" + "05" + 23 * "00", "10000000fbffffff0400000000000000"),  # READ of a bent answer
+    (2, 2, "0100000000000000", ""),  # FORGET
+    (38, 0, "", "10000000000000000600000000000000"),  # DESTROY
+]
+
+WORKED_OUT_TAPE = b"guest-tape 1\n" + bytes.fromhex(
+    "030001000001010c00000000000500000000000000b15056c9a8db77ab5708d19b7f330fe13d88eeae3d0ab271081d3438c0f46264"
+    + 208 * "00" + "030500000068656c6c6f030500000068656c6c4f")
+
+WORKED_OUT_DIGEST = "555b589c26ee43b7a2510e6c67ced9fb3190b6da6e9e683984551f5d77a763de"
+
+
+def worked_out():
+    """INIT of 7.38, LOOKUP, OPEN, a READ, a READ of an answer with a bit changed, FORGET and DESTROY, byte for byte."""
+    session = Session(File("a", 7, b"hello"))
+    for unique, (opcode, node, body, answer) in enumerate(WORKED_OUT):
+        bends = {0: told(b"hellO")} if unique == 4 else None
+        assert session.message(request(opcode, bytes.fromhex(body), unique, node), bends).hex() == answer
+    assert session.tape == WORKED_OUT_TAPE and session.plan == f"plan 1\nfile a 7 {WORKED_OUT_DIGEST}\n".encode()
+    yield ended(session, "worked out", "a session whose plan, tape and replies were worked out by a program that knows the kernel's header")
+
+
 class Draw:
     """Numbers that are drawn."""
 
@@ -500,7 +530,7 @@ def drawn(first):
 
 
 def cases():
-    for part in (rows, sizes, starts, reads, bends, ends):
+    for part in (rows, sizes, starts, reads, bends, ends, worked_out):
         yield from part()
     for first in range(4):
         yield ended(drawn(first), f"drawn {first}", "sixty messages that are drawn, and READs of which some are bent")

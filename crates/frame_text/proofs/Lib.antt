@@ -1,4 +1,3 @@
-pub mod Numbers
 pub mod Payloads
 pub mod Lines
 pub mod Texts

@@ -10,11 +10,10 @@ use Rattle.text_lines.specs.Values.{check, number_in}
 use Rattle.text_lines.specs.Spelling.{◌then◌}
 use Rattle.text_lines.proofs.Fielded.{Free, OneLine, four_take, four_again, first_again}
 use Rattle.text_lines.proofs.Printed.{printed_free, decimal_printed}
-use Rattle.text_lines.proofs.Numbers.{bind_ok, check_ok, text_is}
+use Rattle.text_lines.proofs.Numbers.{bind_ok, check_ok, number_takes, number_again, text_is}
 use Rattle.guest_rules.specs.Machine.{ItemRead}
 use Rattle.frame_text.specs.Requests.{line_of}
 use Rattle.frame_text.specs.Reading.{read_of, read_with}
-use Rattle.frame_text.proofs.Numbers.{number_takes, number_again}
 use Rattle.frame_text.proofs.Payloads.{Fits}
 
 abbrev word : List ℕ
@@ -32,9 +31,9 @@ line_takes line r e =
     let made : read_with c.0 d.0 f.0 ≡ r = cc (f.2) in
     let h = four_take a.0 b.0 b.1 in
     let is_word : b.0.0 ≡ word = sym h.1 ∙ ap first_field (sym k.1) ∙ text_is (first_field line) word k.0 in
-    let item : b.0.1 ≡ decimal c.0 = (number_takes (2 ^ 32) b.0.1 c.0 (omega arith) c.1).0 in
-    let offset : b.0.2 ≡ decimal d.0 = (number_takes (2 ^ 64) b.0.2 d.0 (omega arith) d.1).0 in
-    let size : b.0.3 ≡ decimal f.0 = (number_takes (2 ^ 32) b.0.3 f.0 (omega arith) f.1).0 in
+    let item : b.0.1 ≡ decimal c.0 = (number_takes 0 (2 ^ 32) b.0.1 c.0 (omega arith) c.1).0 in
+    let offset : b.0.2 ≡ decimal d.0 = (number_takes 0 (2 ^ 64) b.0.2 d.0 (omega arith) d.1).0 in
+    let size : b.0.3 ≡ decimal f.0 = (number_takes 0 (2 ^ 32) b.0.3 f.0 (omega arith) f.1).0 in
     k.1 ∙ h.0
     ∙ ap (λ (x : List ℕ). x then b.0.1 then b.0.2 then b.0.3) is_word
     ∙ ap (λ (x : List ℕ). word then x then b.0.2 then b.0.3) item
@@ -56,9 +55,9 @@ unfolding read_of
 line_again r h =
     let first : first_field (line_of r) ≡ word = first_again word (decimal r.item then decimal r.offset then decimal r.size) refl in
     let fields = fields_again r.item r.offset r.size h.item h.offset h.size in
-    let item = number_again (2 ^ 32) r.item (omega arith) h.item in
-    let offset = number_again (2 ^ 64) r.offset (omega arith) h.offset in
-    let size = number_again (2 ^ 32) r.size (omega arith) h.size in
+    let item = number_again 0 (2 ^ 32) r.item (omega arith) (omega arith) h.item in
+    let offset = number_again 0 (2 ^ 64) r.offset (omega arith) (omega arith) h.offset in
+    let size = number_again 0 (2 ^ 32) r.size (omega arith) (omega arith) h.size in
     rw (first, fields, item, offset, size) refl
 
 -- pieces without a line feed, one behind the other

@@ -1,12 +1,10 @@
 // A line, read.
-ghost use Rattle.std.specs.Prelude.{◌≡◌, ◌<◌, ◌≤◌, ◌^◌, ℕ, length, MatchOption, IfSome, None, Some, Ok, true};
-ghost use Rattle.std.specs.Str.{all_ascii_digits};
-ghost use Rattle.std.specs.Str.Parse.{digits_value};
+ghost use Rattle.std.specs.Prelude.{◌≡◌, ◌<◌, ◌^◌, length, MatchOption, IfSome, None, Some};
 ghost use Rattle.text_lines.specs.Fields.{Gives, cut};
-ghost use Rattle.text_lines.specs.Values.{is_number, number_in};
+ghost use Rattle.text_lines.specs.Values.{number_in};
 ghost use Rattle.frame_text.specs.Reading.{read_of, read_with};
 
-use text_lines::{LineFault, PlanKind, first_field, four_fields, number_in};
+use text_lines::{LineFault, PlanKind, first_field, four_fields, number_in, number64};
 
 /// A read of an item.
 #[derive(Clone, Copy, Drop)]
@@ -28,62 +26,6 @@ pub(crate) fn first_line(bytes: &[u8]) -> Option<(&[u8], &[u8])>
         }
     }
     None
-}
-
-// The value of digits, where it fits.
-fn value_of(text: &[u8]) -> Option<u64>
-    requires digits { all_ascii_digits text.now ≡ true }
-    requires some { 0 < length text.now }
-    ensures { MatchOption result (2 ^ 64 ≤ digits_value 10 text.now)
-        (λ n. n ≡ digits_value 10 text.now) }
-{
-    match str::from_utf8(text) {
-        Ok(text) => match text.parse::<u64>() {
-            Ok(n) => Some(n),
-            Err(_) => None,
-        },
-        Err(_) => None,
-    }
-}
-
-fn all_digits(text: &[u8]) -> bool
-    ensures { result ≡ all_ascii_digits text.now }
-{
-    for b in text {
-        if !b.is_ascii_digit() {
-            return false;
-        }
-    }
-    true
-}
-
-fn is_number(text: &[u8]) -> bool
-    ensures { result ≡ is_number text.now }
-{
-    if !all_digits(text) {
-        return false;
-    }
-    if text.is_empty() {
-        return false;
-    }
-    if text[0] != b'0' {
-        return true;
-    }
-    text.len() == 1
-}
-
-// A number of 64 bits.
-#[tactic(auto, unfolding(text_lines::specs::Values::number_in))]
-fn number64(text: &[u8]) -> Result<u64, LineFault>
-    ensures { Gives (λ n. n) result (number_in 0 (2 ^ 64) text.now) }
-{
-    if !is_number(text) {
-        return Err(LineFault::Kind(PlanKind::Number));
-    }
-    match value_of(text) {
-        Some(n) => Ok(n),
-        None => Err(LineFault::Kind(PlanKind::Range)),
-    }
 }
 
 fn number32(text: &[u8]) -> Result<u32, LineFault>

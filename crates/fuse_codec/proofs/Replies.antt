@@ -12,16 +12,7 @@ use Rattle.fuse_codec.specs.Pieces.{error_field, fixed_part, tail_of, sent_body}
 pub never_silent : (r : FuseReply) (served : List ℕ) → answered r served ≡ Some (sent r served)
 unfolding sent
 never_silent (reply.Error unique errno) served = refl
-never_silent (reply.Empty unique) served = refl
-never_silent (reply.Entry unique entry) served = refl
-never_silent (reply.Attr unique attr) served = refl
-never_silent (reply.Opened unique handle) served = refl
-never_silent (reply.Created unique entry handle) served = refl
-never_silent (reply.Written unique count) served = refl
-never_silent (reply.Statfs unique) served = refl
-never_silent (reply.Init unique init) served = refl
-never_silent (reply.Bytes unique) served = refl
-never_silent (reply.Names unique listing) served = refl
+never_silent other served = refl
 
 alone : (unique error : ℕ) (x : List ℕ) → headed unique error x ≡ headed unique error (x ++ [])
 alone unique error x = ap (λ (t : List ℕ). headed unique error t) (sym (append-nil x))

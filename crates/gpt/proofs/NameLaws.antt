@@ -4,17 +4,9 @@ use Rattle.std.specs.List.{flat_map}
 use Rattle.std.specs.Str.{bytes_eq}
 use Rattle.std.specs.Int.{w16, from_le_bytes}
 use Rattle.std.specs.Char.Escape.{encode_utf16}
-use Rattle.std.proofs.lemmas.Bool.{eqb-true}
+use Rattle.std.proofs.lemmas.Bool.{eqb-true, not-true, and_parts}
 use Rattle.std.proofs.lemmas.List.{at_drop_more}
 use Rattle.gpt.specs.Names.{name_units, after_unit, and_then, after_units, is_end}
-
-and_true : (a b : Bool) → (a && b) ≡ true → (a ≡ true) × (b ≡ true)
-and_true true b e = (refl, e)
-and_true false b e = absurd (true≢false (sym e))
-
-not_true : (a : Bool) → not a ≡ true → a ≡ false
-not_true true e = absurd (true≢false (sym e))
-not_true false e = refl
 
 some_of : (t : Bool) (x y : List ℕ) → (if t then Some x else None) ≡ Some y → (t ≡ true) × (x ≡ y)
 some_of true x y e = (refl, cc)
@@ -29,7 +21,7 @@ begins : (v u : ℕ) (rest more : List ℕ) → not (eqb u 0) ≡ true → eqb v
     → bytes_eq (if eqb v 0 then [] else v ∷ rest) (u ∷ more) ≡ bytes_eq rest more
 begins v u rest more some same =
     let e : v ≡ u = eqb-true v u same in
-    let full : eqb v 0 ≡ false = ap (λ (n : ℕ). eqb n 0) e ∙ not_true (eqb u 0) some in
+    let full : eqb v 0 ≡ false = ap (λ (n : ℕ). eqb n 0) e ∙ not-true (eqb u 0) some in
     ap (λ (t : Bool). bytes_eq (if t then [] else v ∷ rest) (u ∷ more)) full ∙ ap (λ (t : Bool). t && bytes_eq rest more) same
 
 other : (v u : ℕ) (rest more : List ℕ) → (not (eqb u 0) && eqb v u) ≡ false
@@ -49,7 +41,7 @@ unit_some u (low ∷ []) rest more e = absurd cc
 unit_some u (low ∷ high ∷ bytes) rest more e =
     let v = from_le_bytes w16 (low ∷ high ∷ []) in
     let r = some_of (not (eqb u 0) && eqb v u) bytes rest e in
-    let t = and_true _ _ r.0 in
+    let t = and_parts _ _ r.0 in
     begins v u (name_units bytes) more t.0 t.1 ∙ ap (λ (b : List ℕ). bytes_eq (name_units b) more) r.1
 
 unit_none : (u : ℕ) (field more : List ℕ) → after_unit u field ≡ None → bytes_eq (name_units field) (u ∷ more) ≡ false

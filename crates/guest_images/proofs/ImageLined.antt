@@ -1,8 +1,9 @@
 -- A line of an image's list: what is read is spelled so, and what is spelled so is read.
-use Rattle.std.proofs.Common.{◌≡◌, ◌≢◌, ◌<◌, ℕ, List, Bool, true, false, not, Result, Some, Ok, Err, refl, sym, ap, subst, ◌∙◌, arith}
+use Rattle.std.proofs.Common.{◌≡◌, ◌≢◌, ◌<◌, ℕ, List, true, false, not, Result, Some, Ok, Err, refl, sym, ap, subst, ◌∙◌, arith}
 use Rattle.std.specs.Prelude.{codes, if◌then◌else◌}
 use Rattle.std.specs.Fmt.{decimal}
 use Rattle.std.specs.Str.{bytes_eq}
+use Rattle.std.proofs.lemmas.Bool.{not-true, false_from_ne_true}
 use Rattle.std.proofs.lemmas.Slice.Eq.{bytes_eq-Decides}
 use Rattle.hex.specs.Hex.{encode_lower}
 use Rattle.guid_crc.specs.Guids.{Guid, guid_of, guid_text}
@@ -45,19 +46,11 @@ Is line item = IsLine item × (line ≡ line_text item)
 
 -- ---- a UUID that isn't nil
 
-not_not : (b : Bool) → not b ≡ true → b ≡ false
-not_not false e = refl
-not_not true e = absurd cc
-
-not_true : (b : Bool) → (b ≡ true → ⊥) → b ≡ false
-not_true false h = refl
-not_true true h = absurd (h refl)
-
 pub other_text : (a b : List ℕ) → bytes_eq a b ≡ false → a ≢ b
 other_text a b h = λ e. let t : bytes_eq a b ≡ true = (bytes_eq-Decides a b).1 e in absurd cc
 
 pub text_other : (a b : List ℕ) → a ≢ b → bytes_eq a b ≡ false
-text_other a b h = not_true (bytes_eq a b) (λ e. h ((bytes_eq-Decides a b).0 e))
+text_other a b h = false_from_ne_true (bytes_eq a b) (λ e. h ((bytes_eq-Decides a b).0 e))
 
 abbrev NamedBy : List ℕ → Guid → Type 0
 NamedBy text g = (text ≡ guid_text g.0) × (guid_of (guid_text g.0) ≡ Some g) × (g.0 ≢ zeros 16)
@@ -68,7 +61,7 @@ named_takes text g e =
     let a = bind_ok (uuid_of text) (λ u. check (not (bytes_eq u.0 (zeros 16))) kinds.Range u) g e in
     let c = check_ok (not (bytes_eq a.0.0 (zeros 16))) kinds.Range a.0 g a.2 in
     let u = uuid_takes text a.0 a.1 in
-    subst (NamedBy text) c.1 (u.0, u.1, other_text a.0.0 (zeros 16) (not_not (bytes_eq a.0.0 (zeros 16)) c.0))
+    subst (NamedBy text) c.1 (u.0, u.1, other_text a.0.0 (zeros 16) (not-true (bytes_eq a.0.0 (zeros 16)) c.0))
 
 named_again : (g : Guid) → guid_of (guid_text g.0) ≡ Some g → g.0 ≢ zeros 16 → named_uuid_of (guid_text g.0) ≡ Ok g
 unfolding named_uuid_of

@@ -33,7 +33,7 @@ use Rattle.instance_image.specs.Sealings.{Sealing, OnlySealed}
 use Rattle.instance_image.proofs.Others.{records_kept, put_right, one_left}
 use Rattle.instance_image.proofs.Hearing.{gets_hear_sealed}
 use Rattle.instance_image.proofs.Promises.{none_answered}
-use Rattle.guest_rules.specs.Machine.{Instance, Setting, State, World, nowhere, Moment, moment, Turn, Request, message_of, read_of, get_of, put_of, unbuilt, request_of, image_with}
+use Rattle.guest_rules.specs.Machine.{Instance, Setting, State, World, nowhere, Moment, moment, Turn, Request, message_of, read_of, get_of, put_of, request_of, image_with}
 use Rattle.guest_rules.specs.RecordRow.{GetRow, no_image, got, get_cause, IsForGet, IsForPut, PutRow, no_image as no_image_put, refused, no_entropy, put, nonce_of, put_sealings, sealing_if}
 use Rattle.guest_rules.specs.Step.{Step, Row, IsFor, most_for, seals, trace}
 use Rattle.guest_rules.specs.Run.{Run, AreSealed, HeardOnlySealed}
@@ -128,9 +128,6 @@ module _ (g : Setting) (earlier : List Sealing) (old : Moment) (turn : Turn) (mi
   heard_by (put_of uuid text) is unread i image =
       none_heard i.salt i.secret (earlier ++ old.sealings) turn.own
       (each_so (IsFor g old.state (put_of uuid text)) IsUnsealed turn.own (λ call given f. put_asks g.image old.state uuid text call given f) (calls_at (put_of uuid text) is))
-  heard_by unbuilt is unread i image =
-      none_heard i.salt i.secret (earlier ++ old.sealings) turn.own
-      (each_so (IsFor g old.state unbuilt) IsUnsealed turn.own (λ call given f s. f) (calls_at unbuilt is))
 
   turn_heard : ReadsNoSectors g (request_of turn.frame) → HeardOnlySealed g.image (Some earlier) old.sealings (heard_of turn.own)
   turn_heard unread = by_image g.image refl where
@@ -213,7 +210,6 @@ module _ (g : Setting) (earlier : List Sealing) (old : Moment) (turn : Turn) (mi
   turn_known laid (read_of r) is = still (ap (λ (s : State). s.parts) (row_at (read_of r) is).0) (keeps (read_of r) is tt)
   turn_known laid (get_of uuid) is = still (ap (λ (s : State). s.parts) (row_at (get_of uuid) is).0) (keeps (get_of uuid) is tt)
   turn_known laid (put_of uuid text) is = by_put uuid text is laid turn.sent turn.cause (row_at (put_of uuid text) is)
-  turn_known laid unbuilt is = absurd (row_at unbuilt is)
 
   -- ---- a get
 

@@ -10,7 +10,7 @@ use Rattle.verity_path.specs.declared.walk.Layout.TheVariants.{File, Parts}
 use Rattle.instance_image.specs.declared.values.Part.{Part}
 use Rattle.instance_image.specs.Sealings.{Sealing}
 use Rattle.instance_image.specs.Staying.{HoldsRecords}
-use Rattle.guest_rules.specs.Machine.{Instance, Setting, World, moment, Turn, Request, message_of, read_of, get_of, put_of, unbuilt, request_of, image_with}
+use Rattle.guest_rules.specs.Machine.{Instance, Setting, World, moment, Turn, Request, message_of, read_of, get_of, put_of, request_of, image_with}
 use Rattle.guest_rules.specs.Run.{AreSealed, calls_of}
 use Rattle.guest_cli.specs.declared.session.SessionEnd.{SessionEnd}
 use Rattle.guest_cli.specs.Booted.{setting_of, first_state}
@@ -29,7 +29,6 @@ ReadsNoSectors g (message_of m) = Unit {0}
 ReadsNoSectors g (read_of r) = (it : Device) → slice_get g.items r.item ≡ Some it → LiesInFile it.layout
 ReadsNoSectors g (get_of uuid) = Unit {0}
 ReadsNoSectors g (put_of uuid text) = Unit {0}
-ReadsNoSectors g unbuilt = Unit {0}
 
 -- each record of the instance image that a host holds is one of these sealings
 abbrev pub HoldsKnown : Option Instance → List Part → Held → List Sealing → Type 0

@@ -207,11 +207,13 @@ pub fn open_record(
     // It is opened exactly where its tag is the right one.
     ensures exact { IsOk result ↔ (tag_for key.now header.now salt.now sealed ≡ tag_in sealed) }
     // Else the answer has the right tag, and the one that it ends with.
-    ensures computed { IfErr result (λ e. e.computed ≡ tag_for key.now header.now salt.now sealed) }
+    ensures computed { IfErr result
+        (λ e. e.computed ≡ tag_for key.now header.now salt.now sealed) }
     ensures found { IfErr result (λ e. e.found ≡ tag_in sealed) }
     ensures differ { IfErr result (λ e. e.computed ≢ e.found) }
     // Then it is the sealed form of no text.
-    ensures nothing { OnErr result ((t : List ℕ) → ¬ IsSealed key.now header.now salt.now sealed t) }
+    ensures nothing { OnErr result
+        ((t : List ℕ) → ¬ IsSealed key.now header.now salt.now sealed t) }
 {
     let SealedText { mut bytes } = sealed;
     match open_bytes(key, &head_of(header, salt), &mut bytes) {
@@ -226,6 +228,3 @@ pub fn one_text_each()
     ensures text { TextsAreOne }
     ensures len { FormsAreLonger }
 {}
-
-#[cfg(test)]
-mod tests;

@@ -63,6 +63,16 @@ suits_long m least most = record { channels = omega arith; least = omega arith; 
 suits_same : (c d m n : ℕ) → IsPayload c n → d ≡ c → m ≡ n → IsPayload d m
 suits_same c d m n s e f = rw (e, f) s
 
+-- the first four bytes of a frame are its payload's length
+record SaysLength (a b c d len : ℕ) : Type 0 where
+  first : a ≡ len % 256
+  second : b ≡ len / 256 ^ 1 % 256
+  third : c ≡ len / 256 ^ 2 % 256
+  fourth : d ≡ len / 256 ^ 3 % 256
+
+length_in : (a b c d : ℕ) (behind : List ℕ) (channel : ℕ) (payload rest : List ℕ) → Fronts (a ∷ b ∷ c ∷ d ∷ behind) channel payload rest → SaysLength a b c d (length payload)
+length_in a b c d behind channel payload rest f = let w = f.whole in record { first = cc; second = cc; third = cc; fourth = cc }
+
 -- a frame whose front the bytes are begins with their completed head
 pub front_is_head : (held more : List ℕ) (channel : ℕ) (payload rest : List ℕ) → Fronts (held ++ more) channel payload rest → IsHead (complete held)
 front_is_head [] more channel payload rest f = record { suits = suits_long _ (omega arith) (omega arith); first = refl; second = refl; third = refl }
@@ -86,42 +96,27 @@ front_is_head (a ∷ b ∷ c ∷ []) more channel payload rest f =
 front_is_head (a ∷ b ∷ c ∷ d ∷ []) more channel payload rest f =
     let w = f.whole in
     let s = f.suits in
-    let ea : a ≡ length payload % 256 = cc in
-    let eb : b ≡ length payload / 256 ^ 1 % 256 = cc in
-    let ec : c ≡ length payload / 256 ^ 2 % 256 = cc in
-    let ed : d ≡ length payload / 256 ^ 3 % 256 = cc in
+    let q = length_in a b c d _ channel payload rest f in
     record { suits = suits_put _ (length payload) s.least s.most (omega arith); first = refl; second = refl; third = refl }
 front_is_head (a ∷ b ∷ c ∷ d ∷ e ∷ []) more channel payload rest f =
     let w = f.whole in
     let s = f.suits in
-    let ea : a ≡ length payload % 256 = cc in
-    let eb : b ≡ length payload / 256 ^ 1 % 256 = cc in
-    let ec : c ≡ length payload / 256 ^ 2 % 256 = cc in
-    let ed : d ≡ length payload / 256 ^ 3 % 256 = cc in
+    let q = length_in a b c d _ channel payload rest f in
     record { suits = suits_same channel e _ (length payload) s (cc) (omega arith); first = refl; second = refl; third = refl }
 front_is_head (a ∷ b ∷ c ∷ d ∷ e ∷ x ∷ []) more channel payload rest f =
     let w = f.whole in
     let s = f.suits in
-    let ea : a ≡ length payload % 256 = cc in
-    let eb : b ≡ length payload / 256 ^ 1 % 256 = cc in
-    let ec : c ≡ length payload / 256 ^ 2 % 256 = cc in
-    let ed : d ≡ length payload / 256 ^ 3 % 256 = cc in
+    let q = length_in a b c d _ channel payload rest f in
     record { suits = suits_same channel e _ (length payload) s (cc) (omega arith); first = cc; second = refl; third = refl }
 front_is_head (a ∷ b ∷ c ∷ d ∷ e ∷ x ∷ y ∷ []) more channel payload rest f =
     let w = f.whole in
     let s = f.suits in
-    let ea : a ≡ length payload % 256 = cc in
-    let eb : b ≡ length payload / 256 ^ 1 % 256 = cc in
-    let ec : c ≡ length payload / 256 ^ 2 % 256 = cc in
-    let ed : d ≡ length payload / 256 ^ 3 % 256 = cc in
+    let q = length_in a b c d _ channel payload rest f in
     record { suits = suits_same channel e _ (length payload) s (cc) (omega arith); first = cc; second = cc; third = refl }
 front_is_head (a ∷ b ∷ c ∷ d ∷ e ∷ x ∷ y ∷ z ∷ held) more channel payload rest f =
     let w = f.whole in
     let s = f.suits in
-    let ea : a ≡ length payload % 256 = cc in
-    let eb : b ≡ length payload / 256 ^ 1 % 256 = cc in
-    let ec : c ≡ length payload / 256 ^ 2 % 256 = cc in
-    let ed : d ≡ length payload / 256 ^ 3 % 256 = cc in
+    let q = length_in a b c d _ channel payload rest f in
     record { suits = suits_same channel e _ (length payload) s (cc) (omega arith); first = cc; second = cc; third = cc }
 
 pub begins_none : (held : List ℕ) → (IsHead (complete held) → ⊥) → BeginsNone held

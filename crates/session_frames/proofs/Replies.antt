@@ -11,16 +11,7 @@ use Rattle.session_frames.specs.declared.reply.ReplyFrame.TheVariants.{Fuse}
 
 pub message_of : (r : FuseReply) (served : List ℕ) → sent_of (Fuse r) served ≡ message_sent (unique_of r) (answer_of r served)
 message_of (reply.Error unique errno) served = refl
-message_of (reply.Empty unique) served = refl
-message_of (reply.Entry unique entry) served = refl
-message_of (reply.Attr unique attr) served = refl
-message_of (reply.Opened unique handle) served = refl
-message_of (reply.Created unique entry handle) served = refl
-message_of (reply.Written unique count) served = refl
-message_of (reply.Statfs unique) served = refl
-message_of (reply.Init unique init) served = refl
-message_of (reply.Bytes unique) served = refl
-message_of (reply.Names unique listing) served = refl
+message_of other served = refl
 
 -- what is sent is the reply to the message of its number: a reply is never silent
 pub message_is : (r : FuseReply) (served : List ℕ) (u : ℕ) → unique_of r ≡ u → sent_of (Fuse r) served ≡ message_sent u (answer_of r served)

@@ -7,6 +7,7 @@ use aes_gcm::{open_in_place, seal_in_place};
 use anyhow::{Result, bail, ensure};
 use hex::FromHex;
 use key_derive::{hkdf32, hmac};
+use sealed_record::{open_record, seal};
 use std::alloc::Global;
 
 const LIMIT: usize = 65_536;
@@ -43,6 +44,35 @@ pub fn seal_line(alloc: Global, key: &str, nonce: &str, head: &str, text: &str) 
         "a seal that does not open"
     );
     Ok(format!(in alloc; "{printed} {front}.")?)
+}
+
+/// The sealed form of a record's text, where it opens to the text again.
+pub fn record_line(
+    alloc: Global,
+    key: &str,
+    data: (&str, &str),
+    nonce: &str,
+    text: &str,
+) -> Result<String> {
+    let key = <[u8; 32] as FromHex>::from_hex(key)?;
+    let nonce = <[u8; 12] as FromHex>::from_hex(nonce)?;
+    let salt = <[u8; 64] as FromHex>::from_hex(data.1)?;
+    let start = bytes_of(alloc, data.0)?;
+    let text = bytes_of(alloc, text)?;
+    ensure!(
+        start.len() == 512 && text.len() <= LIMIT,
+        "a header of 512 bytes and a text of at most {LIMIT}"
+    );
+    let mut header = [0u8; 512];
+    header.copy_from_slice(start.as_slice());
+    let Ok(sealed) = seal(alloc, &key, &nonce, &header, &salt, text.as_slice()) else {
+        bail!("out of memory");
+    };
+    let printed = hex::encode(alloc, sealed.bytes())?;
+    match open_record(&key, &header, &salt, sealed) {
+        Ok(opened) if opened.bytes() == text.as_slice() => Ok(printed),
+        _ => bail!("a record that does not open"),
+    }
 }
 
 // The nonce of a number.

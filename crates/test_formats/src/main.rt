@@ -14,7 +14,9 @@ mod readers;
 mod replies;
 mod words;
 
-use crate::ciphers::{aes_line, changed_line, hkdf_line, hmac_line, print_times, seal_line};
+use crate::ciphers::{
+    aes_line, changed_line, hkdf_line, hmac_line, print_times, record_line, seal_line,
+};
 use crate::composites::print_composite;
 use crate::disks::{print_table, write_disk};
 use crate::files::{print_pages, print_tree};
@@ -39,6 +41,9 @@ fn outcome(alloc: Global, words: &[&str]) -> Result<String> {
         ["frame", bytes] => frame_line(alloc, *bytes),
         ["aes", key, block] => aes_line(alloc, *key, *block),
         ["seal", key, nonce, head, text] => seal_line(alloc, *key, *nonce, *head, *text),
+        ["record", key, header, salt, nonce, text] => {
+            record_line(alloc, *key, (*header, *salt), *nonce, *text)
+        }
         ["changed", key, nonce, head, text] => changed_line(alloc, *key, *nonce, *head, *text),
         ["hmac", key, text] => hmac_line(alloc, *key, *text),
         ["hkdf", salt, key, info] => hkdf_line(alloc, *salt, *key, *info),

@@ -1,9 +1,7 @@
-//! Tests of names and nodes, of handles, and of messages of FUSE over them.
+//! Tests of names and nodes, and of handles.
 #![tactic(auto)]
 
 #[cfg(test)]
 mod handles;
 #[cfg(test)]
 mod names;
-#[cfg(test)]
-mod session;

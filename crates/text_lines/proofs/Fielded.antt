@@ -1,6 +1,6 @@
 -- Fields and lines: what is cut is joined, and what is joined is cut.
 use Rattle.std.proofs.Common.{◌≡◌, ℕ, List, [], ◌∷◌, ◌++◌, Bool, true, false, not, cond, eqb, Option, Some, None, Ok, refl, sym, ap, subst, ◌∙◌, append_assoc}
-use Rattle.std.proofs.lemmas.Bool.{eqb-true, eq-eqb}
+use Rattle.std.proofs.lemmas.Bool.{eqb-true, eq-eqb, not-true}
 use Rattle.std.specs.List.{list_all, flat_map}
 use Rattle.text_lines.specs.Fields.{◌>>=◌, cut, with_first, first_or, first_field, field, field_from, last_field, last_from, two_fields, three_fields, four_fields, five_fields}
 use Rattle.text_lines.specs.Lines.{lines_of, on_front}
@@ -37,10 +37,6 @@ cut_joins at (b ∷ bs) p e = joined_first (eqb b at) at b bs (cut at bs) p (eqb
 abbrev pub is_free : ℕ → List ℕ → Bool
 is_free at bytes = list_all (λ b. not (eqb b at)) bytes
 
-not_not : (b : Bool) → not b ≡ true → b ≡ false
-not_not false e = refl
-not_not true e = absurd cc
-
 same_eqb : (n : ℕ) → eqb n n ≡ true
 same_eqb n = eq-eqb n n refl
 
@@ -48,13 +44,13 @@ pub cut_again : (at : ℕ) (front rest : List ℕ) → is_free at front ≡ true
 cut_again at [] rest h = rw (same_eqb at) refl
 cut_again at (b ∷ front) rest h =
     let k = both (not (eqb b at)) (is_free at front) h in
-    rw (not_not (eqb b at) k.0, cut_again at front rest k.1) refl
+    rw (not-true (eqb b at) k.0, cut_again at front rest k.1) refl
 
 pub uncut_again : (at : ℕ) (bytes : List ℕ) → is_free at bytes ≡ true → cut at bytes ≡ None
 uncut_again at [] h = refl
 uncut_again at (b ∷ bytes) h =
     let k = both (not (eqb b at)) (is_free at bytes) h in
-    rw (not_not (eqb b at) k.0, uncut_again at bytes k.1) refl
+    rw (not-true (eqb b at) k.0, uncut_again at bytes k.1) refl
 
 -- ---- fields
 

@@ -1,9 +1,9 @@
 -- Digits and names, byte by byte.
-use Rattle.std.proofs.Common.{◌≡◌, ◌<◌, ◌≤◌, ℕ, zero, suc, List, [], ◌∷◌, length, get_or, Bool, true, false, ◌&&◌, not, ltb, eqb, refl, arith}
+use Rattle.std.proofs.Common.{◌≡◌, ◌<◌, ◌≤◌, ℕ, zero, suc, List, [], ◌∷◌, Bool, true, false, ◌&&◌, not, ltb, eqb, refl, arith}
 use Rattle.std.proofs.lemmas.Bool.{ltb-true}
 use Rattle.std.proofs.lemmas.Bool.Decides.{nat_tests}
 use Rattle.std.specs.Char.{is_ascii_digit}
-use Rattle.std.specs.Str.{all_ascii_digits, IsAscii, IsUtf8}
+use Rattle.std.specs.Str.{IsAscii, IsUtf8}
 use Rattle.std.specs.List.{list_all}
 use Rattle.std.proofs.lemmas.Str.{IsUtf8-from_ascii}
 use Rattle.text_lines.specs.Values.{is_printed, is_name_byte, is_name, is_part, is_folder_name}
@@ -18,11 +18,6 @@ both_true false b e f = absurd cc
 
 pub digit_range : (c : ℕ) → is_ascii_digit c ≡ true → (48 ≤ c) × (c < 58)
 digit_range c e = grind (arith, nat_tests)
-
-pub digit_in : (ds : List ℕ) (i : ℕ) → all_ascii_digits ds ≡ true → i < length ds → (48 ≤ get_or ds i 0) × (get_or ds i 0 < 58)
-digit_in [] i e lt = absurd (omega arith)
-digit_in (d ∷ ds) zero e lt = digit_range d (both (is_ascii_digit d) (all_ascii_digits ds) e).0
-digit_in (d ∷ ds) (suc i) e lt = digit_in ds i (both (is_ascii_digit d) (all_ascii_digits ds) e).1 (omega arith)
 
 printed_ascii : (b : ℕ) → is_printed b ≡ true → b < 128
 printed_ascii b e = let k = both (ltb 32 b) (ltb b 127) e in omega (arith, ltb-true b 127 k.1)

@@ -1,6 +1,6 @@
 -- What is read line by line is a text of items, and a text of items is read.
 use Rattle.std.proofs.Common.{◌≡◌, ◌<◌, ◌≤◌, ◌+◌, ℕ, zero, suc, List, [], ◌∷◌, ◌++◌, length, map, Bool, true, false, cond, ltb, eqb, Result, Ok, Err, refl, ap, ◌∙◌, arith, inl, inr}
-use Rattle.std.proofs.lemmas.Bool.{lt-ltb, ltb-false, le-ltb, eqb-true}
+use Rattle.std.proofs.lemmas.Bool.{lt-ltb, ltb-false, le-ltb, eqb-true, ne_eqb}
 use Rattle.std.proofs.lemmas.List.{append-nil, nil_from_length}
 use Rattle.std.specs.List.{flat_map, AllByRecursion}
 use Rattle.std.specs.Str.{bytes_eq}
@@ -28,10 +28,6 @@ Total K = Result K (ℕ × PlanKind)
 
 abbrev whole : {K : Type 0} → K → Total K
 whole x = Ok x
-
-not_true : (b : Bool) → (b ≡ true → ⊥) → b ≡ false
-not_true false h = refl
-not_true true h = absurd (h refl)
 
 done_is : {K : Type 0} (x y : K) → done x ≡ done y → x ≡ y
 done_is x y e = cc
@@ -61,7 +57,7 @@ step_takes header item_of add k later n line more e =
     ]
 
 ne_one : (n : ℕ) → 1 < n → eqb n 1 ≡ false
-ne_one n h = not_true (eqb n 1) (λ e. let first : n ≡ 1 = eqb-true n 1 e in absurd (omega arith))
+ne_one n h = ne_eqb n 1 (λ e. absurd (omega arith))
 
 step_again : {I K : Type 0} (header : List ℕ) (item_of : List ℕ → Result I PlanKind) (add : K → ℕ → I → Result K PlanKind) (k later : K) (n : ℕ) (line : List ℕ) (item : I) → 1 < n → n ≤ 4096 →
     item_of line ≡ Ok item → add k n item ≡ Ok later → numbered header (adds item_of add) k n line ≡ Ok later

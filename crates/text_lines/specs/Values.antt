@@ -1,5 +1,5 @@
 -- The values that fields spell. Form is tested before range.
-use Rattle.std.specs.Prelude.{◌≡◌, ◌<◌, ◌≤◌, ℕ, ◌+◌, ◌*◌, ◌/◌, List, [], length, slice_index, Bool, not, ◌&&◌, ◌||◌, Result, Ok, Err, ◌==◌, nat_lt, if◌then◌else◌, codes}
+use Rattle.std.specs.Prelude.{ℕ, ◌/◌, List, [], length, slice_index, Bool, not, ◌&&◌, ◌||◌, Result, Ok, Err, ◌==◌, nat_lt, if◌then◌else◌, codes}
 use Rattle.std.specs.List.{list_all}
 use Rattle.std.specs.Str.{bytes_eq, all_ascii_digits}
 use Rattle.std.specs.Str.Parse.{digits_value}
@@ -64,9 +64,3 @@ is_folder_name text = nat_lt 0 (length text) && nat_lt (length text) 256 && list
 
 unfoldable pub folder_name_of : List ℕ → Result (List ℕ) PlanKind
 folder_name_of text = check (is_folder_name text) kinds.Name text
-
--- n is the value, or both are not below the limit
-pub record Counts (limit value n : ℕ) : Type 0 where
-  pub exact : n < limit → n ≡ value
-  pub beyond : limit ≤ n → limit ≤ value
-  pub small : n < 10 * limit + 10

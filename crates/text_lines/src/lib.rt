@@ -18,5 +18,7 @@ pub use crate::kinds::{LineFault, Name, PlanFault, PlanKind};
 pub use crate::line::Line;
 pub use crate::lines::{LineReader, read_lines};
 pub use crate::list::{ListLine, read_list};
-pub use crate::values::{folder_name_of, hex32, hex64, name_of, number_in, page_salt, part_of};
+pub use crate::values::{
+    folder_name_of, hex32, hex64, name_of, number_in, number64, page_salt, part_of,
+};
 pub use crate::writing::{put_hex, put_number, put_salt};

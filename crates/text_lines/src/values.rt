@@ -1,16 +1,15 @@
 // The values that fields spell.
 
-ghost use Rattle.std.specs.Prelude.{◌≡◌, ℕ, ◌+◌, ◌*◌, ◌<◌, ◌≤◌, ◌^◌, List, length, MatchResult, IfOk, IfErr, Ok, true};
+ghost use Rattle.std.specs.Prelude.{◌≡◌, ℕ, ◌*◌, ◌<◌, ◌≤◌, ◌^◌, List, length, MatchOption, MatchResult, IfOk, IfErr, Ok, true};
 ghost use Rattle.text_lines.specs.declared.kinds.LineFault.TheVariants.{Memory};
 ghost use Rattle.std.specs.Str.{all_ascii_digits};
-ghost use Rattle.std.specs.Char.{digit_value};
 ghost use Rattle.std.specs.Str.Parse.{digits_value};
 ghost use Rattle.std.specs.List.{list_all};
 ghost use Rattle.std.specs.Fmt.{decimal};
 ghost use Rattle.hex.specs.Hex.{encode_lower};
 ghost use Rattle.text_lines.specs.Spelling.{IsHexed, IsSalt, salt_text};
 ghost use Rattle.text_lines.specs.Fields.{Gives, Fails};
-ghost use Rattle.text_lines.specs.Values.{is_number, number_in, hex_of, page_salt, is_printed, is_name_byte, is_name, name_of, is_part, part_of, is_folder_name, folder_name_of, Counts};
+ghost use Rattle.text_lines.specs.Values.{is_number, number_in, hex_of, page_salt, is_printed, is_name_byte, is_name, name_of, is_part, part_of, is_folder_name, folder_name_of};
 
 use crate::kinds::{LineFault, Name, PlanKind};
 use mg_base::Salt;
@@ -43,45 +42,40 @@ fn is_number(text: &[u8]) -> bool
     text.len() == 1
 }
 
-/// One digit more.
-fn counted(n: u64, limit: u64, digit: u8) -> u64
-    requires small { limit ≤ 2 ^ 60 }
-    requires bound { n < 10 * limit + 10 }
-    requires low { 48 ≤ digit }
-    requires high { digit < 58 }
-    ensures { (value : ℕ) → Counts limit value n
-        → Counts limit (value * 10 + digit_value digit) result }
-{
-    if n < limit {
-        10 * n + u64::from(digit - b'0')
-    } else {
-        n
-    }
-}
-
-/// The value of digits, or some number from `limit` on where it is not below it.
-fn value_below(text: &[u8], limit: u64) -> u64
-    requires small { limit ≤ 2 ^ 60 }
+// The value of digits, where 64 bits have room for it.
+fn value_of(text: &[u8]) -> Option<u64>
     requires digits { all_ascii_digits text.now ≡ true }
-    ensures { Counts limit (digits_value 10 text.now) result }
+    requires some { 0 < length text.now }
+    ensures { MatchOption result (2 ^ 64 ≤ digits_value 10 text.now)
+        (λ n. n ≡ digits_value 10 text.now) }
 {
-    let mut n = 0;
-    for digit in text {
-        let next = counted(n, limit, *digit);
-        n = next;
+    match str::from_utf8(text) {
+        Ok(text) => match text.parse::<u64>() {
+            Ok(n) => Some(n),
+            Err(_) => None,
+        },
+        Err(_) => None,
     }
-    n
 }
 
 #[tactic(auto, unfolding(crate::specs::Values::number_in))]
-fn parse_number(low: u64, limit: u64, text: &[u8]) -> Result<u64, LineFault>
-    requires { limit ≤ 2 ^ 60 }
-    ensures { Gives (λ n. n) result (number_in low limit text.now) }
+fn parse_number64(text: &[u8]) -> Result<u64, LineFault>
+    ensures { Gives (λ n. n) result (number_in 0 (2 ^ 64) text.now) }
 {
     if !is_number(text) {
         return Err(LineFault::Kind(PlanKind::Number));
     }
-    let n = value_below(text, limit);
+    match value_of(text) {
+        Some(n) => Ok(n),
+        None => Err(LineFault::Kind(PlanKind::Range)),
+    }
+}
+
+#[tactic(auto, unfolding(crate::specs::Values::number_in))]
+fn parse_number(low: u64, limit: u64, text: &[u8]) -> Result<u64, LineFault>
+    ensures { Gives (λ n. n) result (number_in low limit text.now) }
+{
+    let n = parse_number64(text)?;
     if n < low || limit <= n {
         return Err(LineFault::Kind(PlanKind::Range));
     }
@@ -266,7 +260,6 @@ pub fn folder_name_of(alloc: Global, text: &[u8]) -> Result<Name, LineFault>
 
 /// A number from `low` on, below `limit`.
 pub fn number_in(low: u64, limit: u64, text: &[u8]) -> Result<u64, LineFault>
-    requires { limit ≤ 2 ^ 60 }
     // The value, or the first rule broken.
     ensures value { Gives (λ n. n) result (number_in low limit text.now) }
     // What is read is spelled so.
@@ -276,6 +269,18 @@ pub fn number_in(low: u64, limit: u64, text: &[u8]) -> Result<u64, LineFault>
         → Gives (λ m. m) result (Ok n) }
 {
     parse_number(low, limit, text)
+}
+
+/// A number that 64 bits have room for.
+pub fn number64(text: &[u8]) -> Result<u64, LineFault>
+    // The value, or the first rule broken.
+    ensures value { Gives (λ n. n) result (number_in 0 (2 ^ 64) text.now) }
+    // What is read is spelled so.
+    ensures found { IfOk result (λ n. text.now ≡ decimal n) }
+    // What is spelled so is read.
+    ensures only { (n : ℕ) → text.now ≡ decimal n → n < 2 ^ 64 → Gives (λ m. m) result (Ok n) }
+{
+    parse_number64(text)
 }
 
 /// 32 bytes as digits.

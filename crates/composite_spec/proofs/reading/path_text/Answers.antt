@@ -1,7 +1,7 @@
 use Rattle.std.proofs.Common.{◌≡◌, ◌<◌, List, ℕ, length, true, false, Bool, ◌&&◌, refl, rules}
 use Rattle.std.specs.Str.{IsUtf8}
 use Rattle.std.proofs.lemmas.Str.{is_utf8-from_IsUtf8, IsUtf8-from_is_utf8}
-use Rattle.std.proofs.lemmas.Bool.{lt-ltb}
+use Rattle.std.proofs.lemmas.Bool.{lt-ltb, and_parts, false_from_ne_true}
 use Rattle.composite_spec.specs.Reading.{is_path}
 use Rattle.composite_spec.proofs.reading.path_text.Goals as goal
 
@@ -9,17 +9,9 @@ path_is : (path : List ℕ) → 0 < length path → length path < 256 → IsUtf8
 unfolding is_path
 path_is path some few text = rw (lt-ltb _ _ some, lt-ltb _ _ few, is_utf8-from_IsUtf8 path text) refl
 
-not_true : (b : Bool) → (b ≡ true → ⊥) → b ≡ false
-not_true true h = absurd (h refl)
-not_true false h = refl
-
-both : (a b : Bool) → (a && b) ≡ true → b ≡ true
-both true b e = e
-both false b e = absurd cc
-
 no_path : (path : List ℕ) → (IsUtf8 path → ⊥) → is_path path ≡ false
 unfolding is_path
-no_path path h = not_true _ (λ e. h (IsUtf8-from_is_utf8 path (both _ _ e)))
+no_path path h = false_from_ne_true _ (λ e. h (IsUtf8-from_is_utf8 path (and_parts _ _ e).1))
 
 pub returns-in-Ok : goal.returns-in-Ok
 returns-in-Ok c = (c.in-Ok.ensures.cases.0, path_is c.args.path.now (search rules) (search rules) c.in-Ok.ensures.cases.1)
