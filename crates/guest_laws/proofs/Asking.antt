@@ -11,7 +11,9 @@ use Rattle.host_traits.specs.Did.{IsIn, Each, reads}
 use Rattle.host_traits.proofs.Doing.{in_both}
 use Rattle.guest_plan.specs.declared.plan.PlanLine.{PlanLine}
 use Rattle.guest_plan.specs.declared.plan.PlanLine.TheVariants as line
-use Rattle.guest_boot.specs.Booting.{IsForLine}
+use Rattle.guest_plan.specs.declared.plan.How.TheVariants as measures
+use Rattle.instance_image.specs.Records.{sectors_of}
+use Rattle.guest_boot.specs.Booting.{IsForApk, IsForLine}
 use Rattle.guest_rules.proofs.Holding.{pair_is, when_is}
 
 pub data IsBootCall : Call → Type 0 where
@@ -63,11 +65,18 @@ boot_held honest (m ∷ own) h k s calls =
           (held_one honest h m.call m.given m.came calls.0.0 (subst (λ z. Serves honest h m.call m.given m.came z) same s.1)) rest.1,
     )
 
+apk_call : (disk : ℕ) (call : Call) → IsForApk disk call → IsBootCall call
+apk_call disk call (inl (inl e)) = subst IsBootCall (sym e) (of_size disk)
+apk_call disk call (inl (inr (inl e))) = subst IsBootCall (sym e) (of_sectors disk 0 40)
+apk_call disk call (inl (inr (inr t))) = subst IsBootCall (sym t.2) (of_sectors disk (t.0 - 40) 40)
+apk_call disk call (inr p) = subst IsBootCall (sym p.1) (of_sectors disk p.0.first (min p.0.sectors 136))
+
 pub boot_call : (l : PlanLine) (call : Call) → IsForLine l call → IsBootCall call
-boot_call (line.Apk disk apk idsig how) call (inl (inl e)) = subst IsBootCall (sym e) (of_size disk)
-boot_call (line.Apk disk apk idsig how) call (inl (inr (inl e))) = subst IsBootCall (sym e) (of_sectors disk 0 40)
-boot_call (line.Apk disk apk idsig how) call (inl (inr (inr t))) = subst IsBootCall (sym t.2) (of_sectors disk (t.0 - 40) 40)
-boot_call (line.Apk disk apk idsig how) call (inr p) = subst IsBootCall (sym p.1) (of_sectors disk p.0.first (min p.0.sectors 136))
+boot_call (line.Apk disk apk idsig (measures.Fixed m)) call f = apk_call disk call f
+boot_call (line.Apk disk apk idsig measures.First) call f = apk_call disk call f
+boot_call (line.Apk disk apk idsig (measures.Kept uuid)) call (inl f) = apk_call disk call (inl f)
+boot_call (line.Apk disk apk idsig (measures.Kept uuid)) call (inr (inl g)) = subst IsBootCall (sym g.3) (of_sectors g.0.disk (g.0.first + g.1.sector) (1 + sectors_of g.1.size))
+boot_call (line.Apk disk apk idsig (measures.Kept uuid)) call (inr (inr p)) = apk_call disk call (inr p)
 boot_call (line.File name file digest) call e = subst IsBootCall (sym e) (of_descriptor file)
 boot_call (line.Instance disk part) call (inl (inl e)) = subst IsBootCall (sym e) (of_size disk)
 boot_call (line.Instance disk part) call (inl (inr (inl e))) = subst IsBootCall (sym e) (of_sectors disk 0 40)

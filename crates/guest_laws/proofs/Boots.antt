@@ -12,10 +12,11 @@ use Rattle.guest_plan.specs.Plans.{Known}
 use Rattle.guest_plan.specs.declared.plan.PlanLine.{PlanLine}
 use Rattle.guest_plan.specs.declared.plan.PlanLine.TheVariants as line
 use Rattle.guest_boot.specs.declared.faults.BootCause.{BootCause}
-use Rattle.guest_boot.specs.declared.faults.BootCause.TheVariants.{Gpt, NoPart, Apk, File, Image, Failed, Short, Memory}
+use Rattle.guest_boot.specs.declared.faults.BootCause.TheVariants.{Gpt, NoPart, Apk, File, Image, Get, Put, NoEntropy, MeasureText, Failed, Short, Memory}
 use Rattle.guest_boot.specs.declared.faults.BootFault.{BootFault}
 use Rattle.guest_boot.specs.Finding.{ReadsTable}
-use Rattle.guest_boot.specs.Booting.{Booted, Boots, BootsFrom, before_lines, instance_in, IsFault, IsForLines, LineFails, BlobFails, later_of}
+use Rattle.guest_boot.specs.Recording.{Writing}
+use Rattle.guest_boot.specs.Booting.{Booted, AreUnrecorded, Means, means_of, before_lines, instance_in, IsFault, IsForLines, BlobFails, later_of}
 use Rattle.guest_boot.proofs.Instances.{stands}
 use Rattle.guest_rules.specs.Machine.{World}
 use Rattle.guest_cli.specs.declared.boot.Machine.{Machine}
@@ -26,6 +27,7 @@ use Rattle.guest_laws.proofs.Asking.{AreHeld, IsBootCall, boot_held, boot_call, 
 use Rattle.guest_laws.proofs.Fits.{Knows, true_table, true_left, true_right}
 use Rattle.guest_laws.proofs.Images.{image_passes}
 use Rattle.guest_laws.proofs.Lines.{line_knows, instance_knows}
+use Rattle.guest_laws.proofs.Unrecorded.{PlainBoots, PlainFrom, PlainFails, from_plain, fails_plain, unrecorded_before, unrecorded_at, reads_only}
 use Rattle.guest_laws.proofs.Passes.{CanNotFail, apk_passes, file_passes}
 
 -- ---- the line that failed is one of the plan's
@@ -46,7 +48,7 @@ stands_at (k ∷ before) l after = stands_at before l after
 -- ---- the tables that were read before it
 
 knows_all : (h : Held) (disk : ℕ) (t : Table) → ((own : Exchanges) (u : Table) → AreTrue h disk own → ReadsTable disk own u → u ≡ t) → (lines : List PlanLine) (s new : Booted) (own : Exchanges)
-    → Boots s lines own new → Knows disk t s.tables → AreTrue h disk own → Knows disk t new.tables
+    → PlainBoots s lines own new → Knows disk t s.tables → AreTrue h disk own → Knows disk t new.tables
 knows_all h disk t read [] s new own b known heard = subst (λ (z : Booted). Knows disk t z.tables) (sym b.1) known
 knows_all h disk t read (l ∷ lines) s new own b known heard =
     knows_all h disk t read lines b.2 new b.1 b.5 (line_knows h disk t read s b.2 l b.0 known (true_left h disk own b.0 b.1 b.3 heard) b.4) (true_right h disk own b.0 b.1 b.3 heard)
@@ -58,12 +60,16 @@ blob_passes (NoPart name) e = absurd e
 blob_passes (Apk f) e = absurd e
 blob_passes (File f) e = absurd e
 blob_passes (Image f) e = absurd e
+blob_passes (Get f) e = absurd e
+blob_passes (Put f) e = absurd e
+blob_passes (NoEntropy left) e = absurd e
+blob_passes MeasureText e = absurd e
 blob_passes (Failed faults) e = absurd e
 blob_passes (Short asked got) e = absurd e
 
 module _ (plan : Known) (entropy : List ℕ) (world : World) (h : Held) (fits : Fits plan world h) (t : Trace) (heard : AreHeld h t.own) (calm : CanNotFail h t) where
   line_passes : (before : List PlanLine) (l : PlanLine) (after : List PlanLine) (first rest : Exchanges) (mid : Booted) (why : BootCause) → plan.lines ≡ before ++ l ∷ after → t.own ≡ first ++ rest
-      → BootsFrom (instance_in plan.lines) plan.salt before first mid → LineFails mid l why (later_of t rest) → why ≡ Memory
+      → PlainFrom (instance_in plan.lines) (means_of plan entropy) before first mid → PlainFails l mid why (later_of t rest) → why ≡ Memory
   line_passes before (line.Blob file m) after first rest mid why are cut booted fails = blob_passes why fails.1
   line_passes before (line.Apk disk apk idsig how) after first rest mid why are cut booted fails =
       let l : PlanLine = line.Apk disk apk idsig how in
@@ -73,7 +79,7 @@ module _ (plan : Known) (entropy : List ℕ) (world : World) (h : Held) (fits : 
       let read = true_table h disk f.holds.on in
       let front : AreTrue h disk first = true_left h disk t.own first rest cut truly in
       let at_first = instance_knows h disk table read (instance_in plan.lines) plan.salt booted.first booted.tables booted.image booted.before (true_left h disk first booted.first booted.rest booted.cut front) in
-      let known = knows_all h disk table read before (before_lines booted.tables booted.image) mid booted.rest booted.others at_first (true_right h disk first booted.first booted.rest booted.cut front) in
+      let known = knows_all h disk table read before (before_lines booted.tables booted.image plan.secret entropy) mid booted.rest booted.others at_first (true_right h disk first booted.first booted.rest booted.cut front) in
       apk_passes h disk apk idsig how f.measure f.bytes f.holds f.measured mid (later_of t rest) (true_right h disk t.own first rest cut truly) known calm why fails
   line_passes before (line.File name file digest) after first rest mid why are cut booted fails =
       let l : PlanLine = line.File name file digest in
@@ -82,27 +88,35 @@ module _ (plan : Known) (entropy : List ℕ) (world : World) (h : Held) (fits : 
       file_passes h file digest f.known.content f.known.salt f.holds (later_of t rest) truly calm why fails
   line_passes before other after first rest mid why are cut booted fails = absurd fails
 
-  pub fault_passes : (fault : BootFault) → IsFault plan.salt plan.lines plan.numbers fault t → fault.why ≡ Memory
-  fault_passes fault (inl f) =
-      let i = f.instance in
-      let holds = fits.instance i.at i.disk i.part f.bytes (stands plan.lines i f.is) f.salt_is in
-      image_passes h i.disk i.part f.bytes holds t heard calm fault.why f.fails
-  fault_passes fault (inr f) = line_passes f.before f.line f.after f.first f.rest f.mid fault.why f.lines_are f.cut f.booted f.fails
+  pub fault_passes : (fault : BootFault) (w : List Writing) → AreUnrecorded plan.lines → IsFault (means_of plan entropy) plan.lines plan.numbers fault w t → fault.why ≡ Memory
+  fault_passes fault w unrecorded (inl f) =
+      let i = f.1.instance in
+      let holds = fits.instance i.at i.disk i.part f.1.bytes (stands plan.lines i f.1.is) f.1.salt_is in
+      image_passes h i.disk i.part f.1.bytes holds t heard calm fault.why f.1.fails
+  fault_passes fault w unrecorded (inr f) =
+      let all : AreUnrecorded (f.before ++ f.line ∷ f.after) = subst AreUnrecorded f.lines_are unrecorded in
+      line_passes f.before f.line f.after f.first f.rest f.mid fault.why f.lines_are f.cut (from_plain (instance_in plan.lines) (means_of plan entropy) f.before f.first f.mid (unrecorded_before f.before f.line f.after all) f.booted)
+      (fails_plain f.mid f.line fault.why w (later_of t f.rest) (unrecorded_at f.before f.line f.after all) f.fails)
 
-  pub outcome_passes : (result : Result Machine BootFault) → BootedOutcome plan entropy result t → IfErr result (λ fault. fault.why ≡ Memory)
-  outcome_passes (Ok m) o = tt
-  outcome_passes (Err fault) (inl none) = none.0
-  outcome_passes (Err fault) (inr f) = fault_passes fault f
+  pub outcome_passes : (result : Result Machine BootFault) (w : List Writing) → AreUnrecorded plan.lines → BootedOutcome plan entropy result w t → IfErr result (λ fault. fault.why ≡ Memory)
+  outcome_passes (Ok m) w unrecorded o = tt
+  outcome_passes (Err fault) w unrecorded (inl none) = none.0
+  outcome_passes (Err fault) w unrecorded (inr f) = fault_passes fault w unrecorded f
 
 -- the calls of lines are boot's
 pub lines_call : (lines : List PlanLine) (own : List Made) → Each (reads (IsForLines lines)) own → Each (reads IsBootCall) own
 lines_call lines own each = each_so (reads (IsForLines lines)) (reads IsBootCall) own (λ call given p. (boot_call p.0.line call p.0.for, p.1)) each
 
+-- where they failed, nothing was written either
+none_by : (plan : Known) (entropy : List ℕ) (result : Result Machine BootFault) (w : List Writing) (t : Trace) → AreUnrecorded plan.lines → BootedOutcome plan entropy result w t → w ≡ []
+none_by plan entropy result w t unrecorded o = ?
+
 pub boots_pass : BootsPass
-boots_pass plan entropy world old new result h did told calm fits =
+boots_pass plan entropy world old new result h done unrecorded told calm fits =
+    let did = done.did in
     let after = subst (λ (o : Option Held). HeldAfter old.honest o did.own new.held) told did.talked.held in
-    let calls = lines_call plan.lines did.own did.calls in
+    let calls = lines_call plan.lines did.own (reads_only plan.lines done.writings did.own (none_by plan entropy result done.writings _ unrecorded did.outcome) did.calls) in
     let boot = boot_held old.honest did.own h after.0 after.2 calls in (
-      outcome_passes plan entropy world h fits (trace_of (heard_of did.own) (failures_of did.own) old new) boot.1 (λ call said one last serves. not_failed old new did.own h call said did.talked told calm calls one last serves) result did.outcome,
+      outcome_passes plan entropy world h fits (trace_of (heard_of did.own) (failures_of did.own) old new) boot.1 (λ call said one last serves. not_failed old new did.own h call said did.talked told calm calls one last serves) result done.writings unrecorded did.outcome,
       after.1 ∙ ap (λ (z : Held). Some z) boot.0,
     )

@@ -23,7 +23,8 @@ use Rattle.guest_plan.specs.Plans.{Known}
 use Rattle.guest_plan.specs.declared.plan.PlanLine.{PlanLine}
 use Rattle.guest_plan.specs.declared.plan.PlanLine.TheVariants as line
 use Rattle.guest_plan.proofs.Whole.{plan_takes}
-use Rattle.guest_boot.specs.Booting.{Booted, Boots, PlanBoots, before_lines}
+use Rattle.guest_boot.specs.Booting.{Booted, before_lines, means_of, instance_in}
+use Rattle.guest_laws.proofs.Unrecorded.{PlainBoots, PlainPlan, from_plain}
 use Rattle.guest_names.specs.Standing.{digest_in, files_at_boot}
 use Rattle.guest_names.specs.Promises.{IsPlannedFile}
 use Rattle.guest_names.proofs.Making.{files_opened}
@@ -53,7 +54,7 @@ read_none unique offset size content b sent cause (short_of_memory scarce) = ref
 
 -- ---- each item and each file has its line
 
-item_has_line : (lines : List PlanLine) (s new : Booted) (own : Exchanges) (k n : ℕ) (it : Device) → Boots s lines own new → n ≡ length s.items + k → slice_get new.items n ≡ Some it
+item_has_line : (lines : List PlanLine) (s new : Booted) (own : Exchanges) (k n : ℕ) (it : Device) → PlainBoots s lines own new → n ≡ length s.items + k → slice_get new.items n ≡ Some it
     → (l : PlanLine) × (item_line lines k ≡ Some l)
 item_has_line [] s new own k n it b e at =
     let small = slice_get_within new.items n it at in
@@ -144,7 +145,7 @@ content_of h o (line.Blob file m) f = (f.bytes, f.content_is)
 content_of h o (line.Apk disk apk idsig how) f = (f.bytes, f.content_is)
 content_of h o other f = absurd f
 
-module _ (plan : Known) (h : Held) (world : World) (booted : Exchanges) (new : Booted) (boots : PlanBoots plan.salt plan.lines booted new)
+module _ (plan : Known) (h : Held) (world : World) (booted : Exchanges) (new : Booted) (entropy : List ℕ) (boots : PlainPlan (means_of plan entropy) plan.lines booted new)
     (planned : (n : ℕ) (f : MeasuredFile) → file_at (files_at_boot plan.lines new.files) n ≡ Some f → IsPlannedFile plan.lines booted n f) (fits : Fits plan world h)
     (Stays : PlanLine → Type 0) (stay : (k : ℕ) (l : PlanLine) → item_line plan.lines k ≡ Some l → Stays l) where
   turn_none : (g : Setting) (old : Moment) (turn : Turn) (mid : Moment) → g.items ≡ new.items → old.state.fuse.files ≡ files_at_boot plan.lines new.files → (request : Request) → request_of turn.frame ≡ request
@@ -154,7 +155,7 @@ module _ (plan : Known) (h : Held) (world : World) (booted : Exchanges) (new : B
   turn_none g old turn mid items same (put_of uuid text) is asks row item file = put_none g.image (trace old turn mid) uuid text old.state mid.state turn.sent turn.cause asks row
   turn_none g old turn mid items same (read_of r) is asks row item file =
       row_none g.items world r (trace old turn mid) turn.sent turn.cause (λ it at.
-      let l = item_has_line plan.lines (before_lines boots.tables boots.image) new boots.rest r.item r.item it boots.others (omega arith) (ap (λ (xs : List Device). slice_get xs r.item) (sym items) ∙ at) in
+      let l = item_has_line plan.lines (before_lines boots.tables boots.image plan.secret entropy) new boots.rest r.item r.item it boots.others (omega arith) (ap (λ (xs : List Device). slice_get xs r.item) (sym items) ∙ at) in
       let fit = fits.items r.item l.0 l.1 in
       let c = content_of h (world.item r.item) l.0 fit in
       defined_none r c.0 true turn.sent turn.cause (item r l.0 c.0 is l.1 (stay r.item l.0 l.1) fit c.1)) row.1
@@ -177,12 +178,12 @@ module _ (plan : Known) (h : Held) (world : World) (booted : Exchanges) (new : B
       (λ asks. turn_none g old turn mid items same (request_of turn.frame) refl asks step.row run.3 run.4, run_none g turns mid end items (kept ∙ same) run.5)
 
 pub causes_none : HonestHostsCauseNone
-causes_none files plan store entropy old new ended s turns world r w sealed fits stay =
+causes_none files plan store entropy old new ended s turns world unrecorded r w sealed fits stay =
     let known = s.made.planned in
     let grammar = plan_takes known.text known.plan known.is in
     let opens = s.boots.opens in
     let o = s.opened in
-    let made : Booted = record { tables = opens.tables; items = o.items; files = o.files; image = o.image } in
-    run_none known.plan s.made.stock.held world (heard_of s.booted) made opens.boots
-    (λ n f at. files_opened known.text known.plan (heard_of s.booted) made grammar opens.boots n f at) fits
-    (StaysHeld (setting_of known.plan o) turns) stay (setting_of known.plan o) turns _ _ refl refl (sessions_served files plan store entropy old new ended s turns world r w sealed)
+    let made : Booted = record { tables = opens.tables; items = o.items; files = o.files; image = o.image; secret = known.plan.secret; entropy = o.left; writings = o.writings } in
+    run_none known.plan s.made.stock.held world (heard_of s.booted) made s.bytes (from_plain (instance_in known.plan.lines) (means_of known.plan s.bytes) known.plan.lines (heard_of s.booted) made unrecorded opens.boots)
+    (λ n f at. files_opened known.text known.plan s.bytes (heard_of s.booted) made grammar opens.boots n f at) fits
+    (StaysHeld (setting_of known.plan o) turns) stay (setting_of known.plan o) turns _ _ refl refl (sessions_served files plan store entropy old new ended s turns world unrecorded r w sealed)

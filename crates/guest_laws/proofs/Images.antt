@@ -19,7 +19,7 @@ use Rattle.instance_image.proofs.Served.{Answers}
 use Rattle.instance_image.proofs.Written.{length-disk}
 use Rattle.instance_image.proofs.Holding.{opens}
 use Rattle.guest_boot.specs.declared.faults.BootCause.{BootCause}
-use Rattle.guest_boot.specs.declared.faults.BootCause.TheVariants.{Gpt, NoPart, Apk, File, Image, Failed, Short, Memory}
+use Rattle.guest_boot.specs.declared.faults.BootCause.TheVariants.{Gpt, NoPart, Apk, File, Image, Get, Put, NoEntropy, MeasureText, Failed, Short, Memory}
 use Rattle.guest_boot.specs.Finding.{TableOn, table_on, part_in, one_part, Finds}
 use Rattle.guest_boot.specs.Booting.{later_of, ImageIsRefused, ImageFails}
 use Rattle.guest_laws.specs.Fitting.{AreTrue, HoldsInstance}
@@ -128,6 +128,10 @@ module _ (h : Held) (disk : ℕ) (name salt : List ℕ) (holds : HoldsInstance h
         absurd (not_part holds.span (string_bytes part) (sym holds.part ∙ ap (λ (z : Table). part_in z name) (sym table) ∙ e.lacks))
     image_passes (Apk f) e = absurd e
     image_passes (File f) e = absurd e
+    image_passes (Get f) e = absurd e
+    image_passes (Put f) e = absurd e
+    image_passes (NoEntropy left) e = absurd e
+    image_passes MeasureText e = absurd e
     image_passes (Image f) e = by_cause f (image_fails f e) e
     image_passes (Failed faults) e =
         let failed = e.1 in

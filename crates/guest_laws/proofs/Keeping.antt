@@ -50,11 +50,11 @@ made_laid plan h own (Some i) tables image is heard imaged (Some salt) salted b 
     let same : b.0 ≡ k = image_is b.0 k (sym b.1 ∙ e) in
     subst IsLaid same (opened_laid (opening i.disk holds.span salt) (span_ends h i.disk i.part salt holds) b.2.rest b.0 opened)
 
-pub first_laid : (plan : Known) (h : Held) (own : Exchanges) (o : Opened) → Opens plan own o → AreHeld h own → FitsInstance plan h
+pub first_laid : (plan : Known) (entropy : List ℕ) (h : Held) (own : Exchanges) (o : Opened) → AreUnrecorded plan.lines → Opens plan entropy own o → AreHeld h own → FitsInstance plan h
     → IsImageLaid (setting_of plan o).image (parts_of (records_of o.image plan.secret))
-first_laid plan h own o opens heard imaged =
+first_laid plan entropy h own o unrecorded opens heard imaged =
     let b = opens.boots in
-    let same : o.image ≡ b.image = images_stay (before_lines b.tables b.image) plan.lines b.rest _ b.others in
+    let same : o.image ≡ b.image = (others_stay (before_lines b.tables b.image plan.secret entropy) plan.lines b.rest _ unrecorded b.others).image in
     let front : AreHeld h b.first = λ call said i. heard call said (subst (IsIn call said) (sym b.cut) (in_left b.first b.rest call said i)) in
     with_secret o.image plan.secret (λ k e. made_laid plan h b.first (instance_in plan.lines) b.tables b.image refl front imaged plan.salt refl b.before k (sym same ∙ e))
 
@@ -78,11 +78,11 @@ run_kept Imaged g (turn ∷ turns) old new run laid honest =
     )
 
 pub records_served : RecordsAreServed
-records_served files plan store entropy old new ended s turns r =
+records_served files plan store entropy old new ended s turns unrecorded r =
     let p = s.made.planned.plan in
     let h : Held = s.made.stock.held in
     let told = s.boots.talked.held in
-    let boot = boot_held true s.booted h told.0 told.2 (lines_call p.lines s.booted s.boots.calls) in
+    let boot = boot_held true s.booted h told.0 told.2 (lines_call p.lines s.booted (reads_only p.lines s.opened.writings s.booted (none_written p s.bytes (heard_of s.booted) s.opened unrecorded s.boots.opens) s.boots.calls)) in
     let g : Setting = setting_of p s.opened in
-    let first : State = first_state p s.opened s.bytes in
-    run_kept (FitsInstance p h) g turns (moment first s.mid (heard_of s.booted) []) _ r.plain (λ imaged. first_laid p h (heard_of s.booted) s.opened s.boots.opens boot.1 imaged) s.boots.talked.honest
+    let first : State = first_state p s.opened in
+    run_kept (FitsInstance p h) g turns (moment first s.mid (heard_of s.booted) (sealings_of s.opened)) _ r.plain (λ imaged. first_laid p s.bytes h (heard_of s.booted) s.opened unrecorded s.boots.opens boot.1 imaged) s.boots.talked.honest

@@ -1,3 +1,4 @@
+pub mod Unrecorded
 pub mod Heard
 pub mod Heads
 pub mod Fits

@@ -11,9 +11,10 @@ use Rattle.guest_plan.specs.declared.plan.How.{How}
 use Rattle.guest_plan.specs.declared.plan.PlanLine.{PlanLine}
 use Rattle.guest_plan.specs.declared.plan.PlanLine.TheVariants as line
 use Rattle.guest_boot.specs.Finding.{ReadsTable, HasTable, TableOn, table_on, with_table}
-use Rattle.guest_boot.specs.Booting.{Booted, Boots, LineBoots, ApkBoots, InstanceLine, InstanceBoots}
+use Rattle.guest_boot.specs.Booting.{Booted, ApkBoots, InstanceLine, InstanceBoots}
 use Rattle.guest_laws.specs.Fitting.{AreTrue, item_line}
 use Rattle.guest_laws.proofs.Fits.{Knows, true_left, true_right}
+use Rattle.guest_laws.proofs.Unrecorded.{PlainLine, PlainBoots}
 
 -- ---- the tables
 
@@ -43,7 +44,7 @@ module _ (h : Held) (disk : ℕ) (t : Table) (true_table : (own : Exchanges) (u 
   knows_with None ts d own u known heard has = knows_more ts d u known (λ e. true_table own u heard (subst (λ (n : ℕ). ReadsTable n own u) e has))
   knows_with (Some v) ts d own u known heard has = known
 
-  pub line_knows : (s mid : Booted) (l : PlanLine) (own : Exchanges) → Knows disk t s.tables → AreTrue h disk own → LineBoots s l own mid → Knows disk t mid.tables
+  pub line_knows : (s mid : Booted) (l : PlanLine) (own : Exchanges) → Knows disk t s.tables → AreTrue h disk own → PlainLine s l own mid → Knows disk t mid.tables
   line_knows s mid (line.Blob file m) own known heard b = subst (λ (z : Booted). Knows disk t z.tables) (sym b.1) known
   line_knows s mid (line.Apk d a i how) own known heard b =
       let f = b.found in
@@ -76,14 +77,14 @@ get_last (x ∷ xs) d zero e = absurd (omega (arith, e))
 get_last (x ∷ xs) d (suc n) e = get_last xs d n (omega (arith, e))
 
 -- a device stays where it is
-line_keeps : (s mid : Booted) (l : PlanLine) (own : Exchanges) (k : ℕ) (it : Device) → LineBoots s l own mid → slice_get s.items k ≡ Some it → slice_get mid.items k ≡ Some it
+line_keeps : (s mid : Booted) (l : PlanLine) (own : Exchanges) (k : ℕ) (it : Device) → PlainLine s l own mid → slice_get s.items k ≡ Some it → slice_get mid.items k ≡ Some it
 line_keeps s mid (line.Blob file m) own k it b e = subst (λ (z : Booted). slice_get z.items k ≡ Some it) (sym b.1) (get_left s.items _ k it e)
 line_keeps s mid (line.Apk d a i how) own k it b e = subst (λ (z : Booted). slice_get z.items k ≡ Some it) (sym b.new_is) (get_left s.items _ k it e)
 line_keeps s mid (line.File name file digest) own k it b e = subst (λ (z : Booted). slice_get z.items k ≡ Some it) (sym b.new_is) e
 line_keeps s mid (line.Instance d name) own k it b e = subst (λ (z : Booted). slice_get z.items k ≡ Some it) (sym b.1) e
 line_keeps s mid other own k it b e = absurd b
 
-pub keeps : (lines : List PlanLine) (s new : Booted) (own : Exchanges) (k : ℕ) (it : Device) → Boots s lines own new → slice_get s.items k ≡ Some it → slice_get new.items k ≡ Some it
+pub keeps : (lines : List PlanLine) (s new : Booted) (own : Exchanges) (k : ℕ) (it : Device) → PlainBoots s lines own new → slice_get s.items k ≡ Some it → slice_get new.items k ≡ Some it
 keeps [] s new own k it b e = subst (λ (z : Booted). slice_get z.items k ≡ Some it) (sym b.1) e
 keeps (l ∷ lines) s new own k it b e = keeps lines b.2 new b.1 k it b.5 (line_keeps s b.2 l b.0 k it b.4 e)
 
@@ -103,13 +104,13 @@ pub record AtLine (h : Held) (disk : ℕ) (t : Table) (apk idsig : List ℕ) (ho
   pub is : slice_get items n ≡ Some boots.device
 
 module _ (h : Held) (disk : ℕ) (t : Table) (true_table : (own : Exchanges) (u : Table) → AreTrue h disk own → ReadsTable disk own u → u ≡ t) (apk idsig : List ℕ) (how : How) where
-  here : (lines : List PlanLine) (s mid new : Booted) (first rest : Exchanges) (n : ℕ) → ApkBoots s disk apk idsig how first mid → Boots mid lines rest new → Knows disk t s.tables → AreTrue h disk first
+  here : (lines : List PlanLine) (s mid new : Booted) (first rest : Exchanges) (n : ℕ) → ApkBoots s disk apk idsig how first mid → PlainBoots mid lines rest new → Knows disk t s.tables → AreTrue h disk first
       → n ≡ length s.items → AtLine h disk t apk idsig how new.items n
   here lines s mid new first rest n b more known heard e =
       let made : slice_get mid.items n ≡ Some b.device = subst (λ (z : Booted). slice_get z.items n ≡ Some b.device) (sym b.new_is) (get_last s.items b.device n e) in
       record { old = s; new = mid; own = first; known = known; heard = heard; boots = b; is = keeps lines mid new rest n b.device more made }
 
-  pub at_line : (lines : List PlanLine) (s new : Booted) (own : Exchanges) (k n : ℕ) → Boots s lines own new → Knows disk t s.tables → AreTrue h disk own
+  pub at_line : (lines : List PlanLine) (s new : Booted) (own : Exchanges) (k n : ℕ) → PlainBoots s lines own new → Knows disk t s.tables → AreTrue h disk own
       → item_line lines k ≡ Some (line.Apk disk apk idsig how) → n ≡ length s.items + k → AtLine h disk t apk idsig how new.items n
   at_line [] s new own k n b known heard is e = absurd cc
   at_line (line.Blob file m ∷ lines) s new own zero n b known heard is e = absurd cc
@@ -117,7 +118,7 @@ module _ (h : Held) (disk : ℕ) (t : Table) (true_table : (own : Exchanges) (u 
       let more : length b.2.items ≡ length s.items + 1 = ap (λ (z : Booted). length z.items) b.4.1 ∙ length-append s.items _ in
       at_line lines b.2 new b.1 k n b.5 (line_knows h disk t true_table s b.2 (line.Blob file m) b.0 known (true_left h disk own b.0 b.1 b.3 heard) b.4) (true_right h disk own b.0 b.1 b.3 heard) is (omega (arith, e, more))
   at_line (line.Apk d a i w ∷ lines) s new own zero n b known heard is e =
-      let mine : ApkBoots s disk apk idsig how b.0 b.2 = subst (λ (l : PlanLine). LineBoots s l b.0 b.2) (same_line (line.Apk d a i w) (line.Apk disk apk idsig how) is) b.4 in
+      let mine : ApkBoots s disk apk idsig how b.0 b.2 = subst (λ (l : PlanLine). PlainLine s l b.0 b.2) (same_line (line.Apk d a i w) (line.Apk disk apk idsig how) is) b.4 in
       here lines s b.2 new b.0 b.1 n mine b.5 known (true_left h disk own b.0 b.1 b.3 heard) (omega (arith, e))
   at_line (line.Apk d a i w ∷ lines) s new own (suc k) n b known heard is e =
       let more : length b.2.items ≡ length s.items + 1 = ap (λ (z : Booted). length z.items) b.4.new_is ∙ length-append s.items _ in

@@ -267,7 +267,7 @@ names_stay text plan own o entropy g world told heard sealings turns new spelled
   files = run_files g world start turns new run;
 } where
   start : Moment
-  start = moment (first_state plan o entropy) told heard sealings
+  start = moment (first_state plan o) told heard sealings
 
   first : Fuse
   first = start.state.fuse
@@ -279,7 +279,7 @@ names_stay text plan own o entropy g world told heard sealings turns new spelled
   names = names_at_boot plan.lines
 
   sound : StandsSound first
-  sound = boots_sound text plan o.files spelled (files_counted plan.salt plan.lines own _ boot.boots)
+  sound = boots_sound text plan o.files spelled (files_counted (means_of plan entropy) plan.lines own _ boot.boots)
 
   keeps : KeepsNames first now
   keeps = run_keeps g world start turns new run

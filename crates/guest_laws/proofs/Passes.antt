@@ -34,7 +34,7 @@ use Rattle.ro_file.specs.Contents.{descriptor_of}
 use Rattle.ro_file.proofs.Standing.{length-descriptor, open_whole}
 use Rattle.guest_plan.specs.declared.plan.How.{How}
 use Rattle.guest_boot.specs.declared.faults.BootCause.{BootCause}
-use Rattle.guest_boot.specs.declared.faults.BootCause.TheVariants.{Gpt, NoPart, Apk, File as FileCause, Image, Failed, Short, Memory}
+use Rattle.guest_boot.specs.declared.faults.BootCause.TheVariants.{Gpt, NoPart, Apk, File as FileCause, Image, Get, Put, NoEntropy, MeasureText, Failed, Short, Memory}
 use Rattle.guest_boot.specs.Finding.{table_on, parts_in}
 use Rattle.guest_boot.specs.Booting.{Booted, measure_in, later_of, ApkIsRefused, ApkFails, FileFails}
 use Rattle.guest_rules.proofs.Holding.{pair_is}
@@ -151,6 +151,10 @@ module _ (h : Held) (disk : ℕ) (apk idsig : List ℕ) (how : How) (m : Measure
     apk_passes (Apk apks.Memory) e = absurd e
     apk_passes (FileCause f) e = absurd e.1
     apk_passes (Image f) e = absurd e.1
+    apk_passes (Get f) e = absurd e.1
+    apk_passes (Put f) e = absurd e.1
+    apk_passes (NoEntropy left) e = absurd e.1
+    apk_passes MeasureText e = absurd e.1
     apk_passes (Failed faults) e =
         let failed = e.1 in
         let serves = next_serves h disk holds.on.on holds.on.there holds.on.sectors holds.on.table holds.on.whole holds.on.are_bytes holds.on.is_table t.own heard failed.call failed.for in
@@ -211,5 +215,9 @@ module _ (h : Held) (number : ℕ) (digest : Digest) (content salt : List ℕ) (
     file_passes (NoPart name) e = absurd e
     file_passes (Apk f) e = absurd e
     file_passes (Image f) e = absurd e
+    file_passes (Get f) e = absurd e
+    file_passes (Put f) e = absurd e
+    file_passes (NoEntropy left) e = absurd e
+    file_passes MeasureText e = absurd e
     file_passes (Failed faults) e = absurd e
     file_passes (Short asked got) e = absurd e

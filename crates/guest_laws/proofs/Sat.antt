@@ -21,7 +21,7 @@ use Rattle.fuse_server.proofs.Keeping.{aim_file}
 use Rattle.guest_plan.specs.Plans.{Known}
 use Rattle.guest_plan.specs.declared.plan.PlanLine.{PlanLine}
 use Rattle.guest_plan.specs.declared.plan.PlanLine.TheVariants as line
-use Rattle.guest_boot.specs.Booting.{AreServed, Booted, Boots, PlanBoots, LineBoots, device_on, before_lines}
+use Rattle.guest_boot.specs.Booting.{AreServed, AreUnrecorded, Booted, Means, means_of, instance_in, device_on, before_lines}
 use Rattle.guest_boot.proofs.Makes.{device_is_item}
 use Rattle.guest_rules.specs.Machine.{Instance, Setting, State, World, Salted, Moment, Turn, IsItem, request_of, moment}
 use Rattle.guest_rules.specs.Step.{Step, trace}
@@ -30,7 +30,7 @@ use Rattle.guest_rules.specs.Faithful.{HoldsDevice, HoldsContent, IsDefined, IsR
 use Rattle.guest_rules.proofs.Serving.{all_served, files_served}
 use Rattle.guest_rules.proofs.Standing.{run_heard, world_first, world_at, known_by, files_kept, opened_at}
 use Rattle.guest_plan.proofs.Whole.{plan_takes}
-use Rattle.guest_cli.specs.Booted.{Opened, BootsOver, setting_of, first_state}
+use Rattle.guest_cli.specs.Booted.{Opened, BootsOver, setting_of, first_state, sealings_of}
 use Rattle.guest_cli.specs.Serve.{before, Recorded}
 use Rattle.guest_cli.proofs.Opening.{opened_first}
 use Rattle.guest_boot.proofs.Plans.{plan_served}
@@ -40,17 +40,18 @@ use Rattle.guest_laws.proofs.Asking.{AreHeld, boot_held, not_failed}
 use Rattle.guest_laws.proofs.Boots.{lines_call, fault_passes}
 use Rattle.guest_laws.proofs.Items.{served_line}
 use Rattle.guest_laws.proofs.Lines.{same_line, get_last, keeps}
+use Rattle.guest_laws.proofs.Unrecorded.{PlainLine, PlainBoots, PlainPlan, from_plain, none_written, reads_only}
 use Rattle.guest_laws.proofs.Served.{apk_kept}
 use Rattle.guest_laws.proofs.Staying.{IsSameBut, same_self, same_on, step_keeps, step_same, file_stays, parts_stay}
 
 -- ---- a line's item is held
 
 -- the device of a `blob` line
-blob_line : (file : ℕ) (m : Measure) (lines : List PlanLine) (s new : Booted) (own : Exchanges) (k n : ℕ) → Boots s lines own new → item_line lines k ≡ Some (line.Blob file m) → n ≡ length s.items + k
+blob_line : (file : ℕ) (m : Measure) (lines : List PlanLine) (s new : Booted) (own : Exchanges) (k n : ℕ) → PlainBoots s lines own new → item_line lines k ≡ Some (line.Blob file m) → n ≡ length s.items + k
     → slice_get new.items n ≡ Some (device_on file m)
 blob_line file m [] s new own k n b is e = absurd cc
 blob_line file m (line.Blob f w ∷ lines) s new own zero n b is e =
-    let mine : LineBoots s (line.Blob file m) b.0 b.2 = subst (λ (l : PlanLine). LineBoots s l b.0 b.2) (same_line (line.Blob f w) (line.Blob file m) is) b.4 in
+    let mine : PlainLine s (line.Blob file m) b.0 b.2 = subst (λ (l : PlanLine). PlainLine s l b.0 b.2) (same_line (line.Blob f w) (line.Blob file m) is) b.4 in
     let made : slice_get b.2.items n ≡ Some (device_on file m) = subst (λ (z : Booted). slice_get z.items n ≡ Some (device_on file m)) (sym mine.1) (get_last s.items (device_on file m) n (omega (arith, e))) in
     keeps lines b.2 new b.1 n (device_on file m) b.5 made
 blob_line file m (line.Blob f w ∷ lines) s new own (suc k) n b is e =
@@ -78,7 +79,7 @@ record IsKept (image : Option Instance) (h : Held) (world : World) (items : List
   holds : HoldsDevice h it content
   stays : (now : Held) → IsSameBut image h now → LiesApart image l → HoldsDevice now it content
 
-module _ (image : Option Instance) (salt : Option (List ℕ)) (lines : List PlanLine) (h : Held) (world : World) (booted : Exchanges) (served : AreServed lines) (new : Booted) (boots : PlanBoots salt lines booted new) (true_to : AreHeld h booted)
+module _ (image : Option Instance) (means : Means) (lines : List PlanLine) (h : Held) (world : World) (booted : Exchanges) (served : AreServed lines) (new : Booted) (boots : PlainPlan means lines booted new) (true_to : AreHeld h booted)
     (measured : (k : ℕ) (it : Device) (content : List ℕ) → slice_get new.items k ≡ Some it → world.item k ≡ Some content → IsMeasured it.measure content) where
   line_kept : (l : PlanLine) (k : ℕ) → item_line lines k ≡ Some l → FitsItem h (world.item k) l → IsKept image h world new.items l k
   line_kept (line.Blob file m) k at f =
@@ -86,7 +87,7 @@ module _ (image : Option Instance) (salt : Option (List ℕ)) (lines : List Plan
       let i = device_is_item file m said.1 in
       record {
         it = device_on file m;
-        at = blob_line file m lines (before_lines boots.tables boots.image) new boots.rest k k boots.others at (omega arith);
+        at = blob_line file m lines (before_lines boots.tables boots.image means.secret means.entropy) new boots.rest k k boots.others at (omega arith);
         item = record { least = i.least; most = i.most; suits = i.suits };
         content = f.bytes;
         content_is = f.content_is;
@@ -94,7 +95,7 @@ module _ (image : Option Instance) (salt : Option (List ℕ)) (lines : List Plan
         stays = λ now same apart. file_stays image h now same file (4096 * m.blocks) m f.bytes f.holds;
       }
   line_kept (line.Apk disk apk idsig how) k at f =
-      let a = apk_kept salt lines booted new world h k f.bytes disk apk idsig how f.measure boots served at f.content_is measured f.holds (λ call said i of. true_to call said i) in
+      let a = apk_kept means lines booted new world h k f.bytes disk apk idsig how f.measure boots served at f.content_is measured f.holds (λ call said i of. true_to call said i) in
       let held = a.held in
       record {
         it = a.it;
@@ -194,36 +195,36 @@ module _ (plan : Known) (h : Held) (mid : Told) (booted : List Made) (o : Opened
   g = setting_of plan o
 
   abbrev first : State
-  first = first_state plan o entropy
+  first = first_state plan o
 
-  turns_served : AreServed plan.lines → BootsOver plan (before h) mid booted o → AreOpened first (heard_of booted) → (r : Recorded g first booted mid calls records finish turns)
+  turns_served : AreServed plan.lines → AreUnrecorded plan.lines → BootsOver plan entropy (before h) mid booted o → AreOpened first (heard_of booted) → (r : Recorded g first (sealings_of o) booted mid calls records finish turns)
       → IsWorld g first world (heard_of booted ++ heard_of (calls_of turns))
-      → AreSealed g world (moment first mid (heard_of booted) []) turns (moment r.state finish (heard_of booted ++ heard_of (calls_of turns)) r.sealed) r.plain
-      → RunServed plan h (StaysHeld g turns) g world (moment first mid (heard_of booted) []) turns (moment r.state finish (heard_of booted ++ heard_of (calls_of turns)) r.sealed)
-  turns_served served over there r w sealed =
+      → AreSealed g world (moment first mid (heard_of booted) (sealings_of o)) turns (moment r.state finish (heard_of booted ++ heard_of (calls_of turns)) r.sealed) r.plain
+      → RunServed plan h (StaysHeld g turns) g world (moment first mid (heard_of booted) (sealings_of o)) turns (moment r.state finish (heard_of booted ++ heard_of (calls_of turns)) r.sealed)
+  turns_served served unrecorded over there r w sealed =
       let opens = over.opens in
       let told = over.talked.held in
-      let boot = boot_held true booted h told.0 told.2 (lines_call plan.lines booted over.calls) in
+      let boot = boot_held true booted h told.0 told.2 (lines_call plan.lines booted (reads_only plan.lines o.writings booted (none_written plan entropy (heard_of booted) o unrecorded opens) over.calls)) in
       let mid_held : mid.held ≡ Some h = told.1 ∙ ap (λ (z : Held). Some z) boot.0 in
       let all : Exchanges = heard_of booted ++ heard_of (calls_of turns) in
-      let made : Booted = record { tables = opens.tables; items = o.items; files = o.files; image = o.image } in
+      let made : Booted = record { tables = opens.tables; items = o.items; files = o.files; image = o.image; secret = plan.secret; entropy = o.left; writings = o.writings } in
       let kept : (k : ℕ) (l : PlanLine) → item_line plan.lines k ≡ Some l → FitsItem h (world.item k) l → IsKept g.image h world o.items l k = λ k l at fits.
-      line_kept g.image plan.salt plan.lines h world (heard_of booted) served made opens.boots boot.1 w.items l k at fits in
-      run_served g world plan h turns kept turns (moment first mid (heard_of booted) []) (moment r.state finish all r.sealed) h (r.run world w sealed) mid_held
+      line_kept g.image (means_of plan entropy) plan.lines h world (heard_of booted) served made (from_plain (instance_in plan.lines) (means_of plan entropy) plan.lines (heard_of booted) made unrecorded opens.boots) boot.1 w.items l k at fits in
+      run_served g world plan h turns kept turns (moment first mid (heard_of booted) (sealings_of o)) (moment r.state finish all r.sealed) h (r.run world w sealed) mid_held
       (record { same = same_self g.image h; quiet = λ unwritten. (refl, unwritten) }) over.talked.honest there w over.talked.scarce
 
 pub sessions_served : SessionsAreServed
-sessions_served files plan store entropy old new ended s turns world r w sealed =
+sessions_served files plan store entropy old new ended s turns world unrecorded r w sealed =
     let planned = s.made.planned in
     let grammar = plan_takes planned.text planned.plan planned.is in
     let served = plan_served planned.text planned.plan grammar in
     let there = opened_first planned.text planned.plan (heard_of s.booted) s.opened s.bytes grammar s.boots.opens in
-    turns_served planned.plan s.made.stock.held s.mid s.booted s.opened s.bytes s.calls s.records s.finish turns world served s.boots there r w sealed
+    turns_served planned.plan s.made.stock.held s.mid s.booted s.opened s.bytes s.calls s.records s.finish turns world served unrecorded s.boots there r w sealed
 
 -- ---- a boot that failed
 
 pub boots_served : BootsAreServed
-boots_served files plan store entropy fault world u fits =
+boots_served files plan store entropy fault world u unrecorded fits =
     let f = u.fails in
     let k = u.made.planned.plan in
     let h : Held = u.made.stock.held in

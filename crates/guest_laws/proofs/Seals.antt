@@ -262,16 +262,16 @@ run_sealed g world earlier known (turn ∷ turns) old new run now told laid hold
     )
 
 pub none_forged : HonestHostsForgeNone
-none_forged files plan store entropy old new ended s turns world earlier r known fits records unread =
+none_forged files plan store entropy old new ended s turns world earlier unrecorded r known fits records unread =
     let p = s.made.planned.plan in
     let h : Held = s.made.stock.held in
     let told = s.boots.talked.held in
-    let boot = boot_held true s.booted h told.0 told.2 (lines_call p.lines s.booted s.boots.calls) in
+    let boot = boot_held true s.booted h told.0 told.2 (lines_call p.lines s.booted (reads_only p.lines s.opened.writings s.booted (none_written p s.bytes (heard_of s.booted) s.opened unrecorded s.boots.opens) s.boots.calls)) in
     let g : Setting = setting_of p s.opened in
-    let first : State = first_state p s.opened s.bytes in
-    run_sealed g world earlier known turns (moment first s.mid (heard_of s.booted) []) _ r.plain h (told.1 ∙ ap (λ (z : Held). Some z) boot.0)
-    (first_laid p h (heard_of s.booted) s.opened s.boots.opens boot.1 fits)
-    (subst (λ (x : List Sealing). HoldsKnown g.image first.parts h x) (sym (append-nil earlier)) records) unread
+    let first : State = first_state p s.opened in
+    run_sealed g world earlier known turns (moment first s.mid (heard_of s.booted) (sealings_of s.opened)) _ r.plain h (told.1 ∙ ap (λ (z : Held). Some z) boot.0)
+    (first_laid p s.bytes h (heard_of s.booted) s.opened unrecorded s.boots.opens boot.1 fits)
+    (subst (λ (x : List Sealing). HoldsKnown g.image first.parts h x) (sym (ap (λ (z : List Sealing). earlier ++ z) (none_sealed p s.bytes (heard_of s.booted) s.opened unrecorded s.boots.opens) ∙ append-nil earlier)) records) unread
 
 run_gets : (g : Setting) (earlier : List Sealing) (turns : List Turn) (old new : Moment) (run : Run g nowhere old turns new) (now : Held) → old.told.held ≡ Some now → old.told.honest ≡ true
     → IsImageLaid g.image old.state.parts → HoldsKnown g.image old.state.parts now (earlier ++ old.sealings)
@@ -287,13 +287,13 @@ run_gets g earlier (turn ∷ turns) old new run now told honest laid holds =
     )
 
 pub gets_none : GetsCauseNone
-gets_none files plan store entropy old new ended s turns earlier r fits records =
+gets_none files plan store entropy old new ended s turns earlier unrecorded r fits records =
     let p = s.made.planned.plan in
     let h : Held = s.made.stock.held in
     let told = s.boots.talked.held in
-    let boot = boot_held true s.booted h told.0 told.2 (lines_call p.lines s.booted s.boots.calls) in
+    let boot = boot_held true s.booted h told.0 told.2 (lines_call p.lines s.booted (reads_only p.lines s.opened.writings s.booted (none_written p s.bytes (heard_of s.booted) s.opened unrecorded s.boots.opens) s.boots.calls)) in
     let g : Setting = setting_of p s.opened in
-    let first : State = first_state p s.opened s.bytes in
-    run_gets g earlier turns (moment first s.mid (heard_of s.booted) []) _ r.plain h (told.1 ∙ ap (λ (z : Held). Some z) boot.0) s.boots.talked.honest
-    (first_laid p h (heard_of s.booted) s.opened s.boots.opens boot.1 fits)
-    (subst (λ (x : List Sealing). HoldsKnown g.image first.parts h x) (sym (append-nil earlier)) records)
+    let first : State = first_state p s.opened in
+    run_gets g earlier turns (moment first s.mid (heard_of s.booted) (sealings_of s.opened)) _ r.plain h (told.1 ∙ ap (λ (z : Held). Some z) boot.0) s.boots.talked.honest
+    (first_laid p s.bytes h (heard_of s.booted) s.opened unrecorded s.boots.opens boot.1 fits)
+    (subst (λ (x : List Sealing). HoldsKnown g.image first.parts h x) (sym (ap (λ (z : List Sealing). earlier ++ z) (none_sealed p s.bytes (heard_of s.booted) s.opened unrecorded s.boots.opens) ∙ append-nil earlier)) records)

@@ -37,14 +37,14 @@ pub record IsApkKept (h : Held) (disk : ℕ) (items : List Device) (k : ℕ) (m 
   pub item : IsItem it
   pub holds : HoldsDevice h it content
 
-pub apk_kept : (salt : Option (List ℕ)) (lines : List PlanLine) (booted : Exchanges) (new : Booted) (world : World) (h : Held) (k : ℕ) (content : List ℕ) (disk : ℕ) (apk idsig : List ℕ) (how : How) (m : Measure)
-    → PlanBoots salt lines booted new → AreServed lines → item_line lines k ≡ Some (line.Apk disk apk idsig how) → world.item k ≡ Some content
+pub apk_kept : (means : Means) (lines : List PlanLine) (booted : Exchanges) (new : Booted) (world : World) (h : Held) (k : ℕ) (content : List ℕ) (disk : ℕ) (apk idsig : List ℕ) (how : How) (m : Measure)
+    → PlainPlan means lines booted new → AreServed lines → item_line lines k ≡ Some (line.Apk disk apk idsig how) → world.item k ≡ Some content
     → ((k : ℕ) (it : Device) (content : List ℕ) → slice_get new.items k ≡ Some it → world.item k ≡ Some content → IsMeasured it.measure content) → HoldsApk h disk apk idsig how m content → AreTrue h disk booted → IsApkKept h disk new.items k m content
-apk_kept salt lines booted new world h k content disk apk idsig how m b lines_served at_k is measured holds booted_true =
+apk_kept means lines booted new world h k content disk apk idsig how m b lines_served at_k is measured holds booted_true =
     let table : Table = holds.on.table in
     let read = true_table h disk holds.on in
-    let at_first = instance_knows h disk table read (instance_in lines) salt b.first b.tables b.image b.before (true_left h disk booted b.first b.rest b.cut booted_true) in
-    let found = at_line h disk table read apk idsig how lines (before_lines b.tables b.image) new b.rest k k b.others at_first (true_right h disk booted b.first b.rest b.cut booted_true) at_k (omega arith) in
+    let at_first = instance_knows h disk table read (instance_in lines) means.salt b.first b.tables b.image b.before (true_left h disk booted b.first b.rest b.cut booted_true) in
+    let found = at_line h disk table read apk idsig how lines (before_lines b.tables b.image means.secret means.entropy) new b.rest k k b.others at_first (true_right h disk booted b.first b.rest b.cut booted_true) at_k (omega arith) in
     let it : Device = found.boots.device in
     let held = boots_held h disk apk idsig how m content holds found.old found.new found.own found.boots found.known found.heard (measured k it content found.is is) in
     let said = served_line lines k (line.Apk disk apk idsig how) lines_served at_k in

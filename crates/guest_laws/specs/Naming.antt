@@ -39,6 +39,6 @@ pub record IsAsPlanned (lines : List PlanLine) (opened : List MeasuredFile) (s :
 abbrev pub NamesStay : Type 0
 NamesStay = (text : List ℕ) (plan : Known) (own : Exchanges) (o : Opened) (entropy : List ℕ)
     (g : Setting) (world : World) (told : Told) (heard : Exchanges) (sealings : List Sealing) (turns : List Turn) (new : Moment)
-    → IsPlan text plan → Opens plan own o
-    → Run g world (moment (first_state plan o entropy) told heard sealings) turns new
+    → IsPlan text plan → Opens plan entropy own o
+    → Run g world (moment (first_state plan o) told heard sealings) turns new
     → IsAsPlanned plan.lines o.files new.state.fuse

@@ -10,10 +10,11 @@ use Rattle.verity_path.specs.declared.walk.Layout.TheVariants.{File, Parts}
 use Rattle.instance_image.specs.declared.values.Part.{Part}
 use Rattle.instance_image.specs.Sealings.{Sealing}
 use Rattle.instance_image.specs.Staying.{HoldsRecords}
+use Rattle.guest_boot.specs.Booting.{AreUnrecorded}
 use Rattle.guest_rules.specs.Machine.{Instance, Setting, World, moment, Turn, Request, message_of, read_of, get_of, put_of, request_of, image_with}
 use Rattle.guest_rules.specs.Run.{AreSealed, calls_of}
 use Rattle.guest_cli.specs.declared.session.SessionEnd.{SessionEnd}
-use Rattle.guest_cli.specs.Booted.{setting_of, first_state}
+use Rattle.guest_cli.specs.Booted.{setting_of, first_state, sealings_of}
 use Rattle.guest_cli.specs.Session.{Streams}
 use Rattle.guest_cli.specs.Serve.{Recorded, SatOver}
 use Rattle.guest_laws.specs.Fitting.{FitsInstance}
@@ -41,18 +42,20 @@ HoldsKnown (Some i) parts h sealings = HoldsRecords h (image_with i parts) i.sec
 abbrev pub HonestHostsForgeNone : Type 0
 HonestHostsForgeNone = (files : Option Files) (plan store entropy : List ℕ) (old new : Streams) (ended : Result (Unit {0}) SessionEnd)
     (s : SatOver files plan store entropy old new ended) (turns : List Turn) (world : World) (earlier : List Sealing)
-    → (r : Recorded (setting_of s.made.planned.plan s.opened) (first_state s.made.planned.plan s.opened s.bytes) s.booted s.mid s.calls s.records s.finish turns)
+    → AreUnrecorded s.made.planned.plan.lines
+    → (r : Recorded (setting_of s.made.planned.plan s.opened) (first_state s.made.planned.plan s.opened) (sealings_of s.opened) s.booted s.mid s.calls s.records s.finish turns)
     → world.sealed ≡ Some earlier → FitsInstance s.made.planned.plan s.made.stock.held
-    → HoldsKnown (setting_of s.made.planned.plan s.opened).image (first_state s.made.planned.plan s.opened s.bytes).parts s.made.stock.held earlier
+    → HoldsKnown (setting_of s.made.planned.plan s.opened).image (first_state s.made.planned.plan s.opened).parts s.made.stock.held earlier
     → AllByRecursion (λ t. ReadsNoSectors (setting_of s.made.planned.plan s.opened) (request_of t.frame)) turns
-    → AreSealed (setting_of s.made.planned.plan s.opened) world (moment (first_state s.made.planned.plan s.opened s.bytes) s.mid (heard_of s.booted) []) turns
+    → AreSealed (setting_of s.made.planned.plan s.opened) world (moment (first_state s.made.planned.plan s.opened) s.mid (heard_of s.booted) (sealings_of s.opened)) turns
     (moment r.state s.finish (heard_of s.booted ++ heard_of (calls_of turns)) r.sealed) r.plain
 
 -- In such a session, whatever its requests read, no get has a cause.
 abbrev pub GetsCauseNone : Type 0
 GetsCauseNone = (files : Option Files) (plan store entropy : List ℕ) (old new : Streams) (ended : Result (Unit {0}) SessionEnd)
     (s : SatOver files plan store entropy old new ended) (turns : List Turn) (earlier : List Sealing)
-    → (r : Recorded (setting_of s.made.planned.plan s.opened) (first_state s.made.planned.plan s.opened s.bytes) s.booted s.mid s.calls s.records s.finish turns)
+    → AreUnrecorded s.made.planned.plan.lines
+    → (r : Recorded (setting_of s.made.planned.plan s.opened) (first_state s.made.planned.plan s.opened) (sealings_of s.opened) s.booted s.mid s.calls s.records s.finish turns)
     → FitsInstance s.made.planned.plan s.made.stock.held
-    → HoldsKnown (setting_of s.made.planned.plan s.opened).image (first_state s.made.planned.plan s.opened s.bytes).parts s.made.stock.held earlier
+    → HoldsKnown (setting_of s.made.planned.plan s.opened).image (first_state s.made.planned.plan s.opened).parts s.made.stock.held earlier
     → AllByRecursion (λ t. (uuid : List ℕ) → request_of t.frame ≡ get_of uuid → t.cause ≡ None) turns

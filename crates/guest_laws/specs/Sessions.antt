@@ -18,12 +18,13 @@ use Rattle.guest_plan.specs.Plans.{Known}
 use Rattle.guest_plan.specs.declared.plan.PlanLine.{PlanLine}
 use Rattle.guest_plan.specs.declared.plan.PlanLine.TheVariants as line
 use Rattle.guest_boot.specs.declared.faults.BootFault.{BootFault}
+use Rattle.guest_boot.specs.Booting.{AreUnrecorded}
 use Rattle.guest_rules.specs.Machine.{Instance, Setting, World, nowhere, Moment, moment, Turn, ItemRead, Request, message_of, read_of, get_of, put_of, request_of, image_with}
 use Rattle.guest_rules.specs.Step.{Step}
 use Rattle.guest_rules.specs.Run.{IsEarly, IsWorld, AreSealed, calls_of}
 use Rattle.guest_rules.specs.Faithful.{IsDefined, IsReadDefined}
 use Rattle.guest_cli.specs.declared.session.SessionEnd.{SessionEnd}
-use Rattle.guest_cli.specs.Booted.{setting_of, first_state}
+use Rattle.guest_cli.specs.Booted.{setting_of, first_state, sealings_of}
 use Rattle.guest_cli.specs.Session.{Streams}
 use Rattle.guest_cli.specs.Serve.{Recorded, SatOver, UnbootedOver}
 use Rattle.guest_laws.specs.Fitting.{Fits, FitsInstance, FitsItem, FitsFile, item_line}
@@ -144,7 +145,7 @@ RunKept Imaged g old (turn ∷ turns) new = (mid : Moment) × IsEarly old.told.h
 -- status 8 doesn't come.
 abbrev pub BootsAreServed : Type 0
 BootsAreServed = (files : Option Files) (plan store entropy : List ℕ) (fault : BootFault) (world : World)
-    (u : UnbootedOver files plan store entropy fault) → Fits u.made.planned.plan world u.made.stock.held → ⊥
+    (u : UnbootedOver files plan store entropy fault) → AreUnrecorded u.made.planned.plan.lines → Fits u.made.planned.plan world u.made.stock.held → ⊥
 
 -- A session of `serve`, over the host that a store list makes, whose turns these are. It is a run in which each read of an item, and
 -- each READ of a file, that the host holds at first as its line needs it has its defined reply: its bytes, or 22 where too many were
@@ -154,12 +155,13 @@ BootsAreServed = (files : Option Files) (plan store entropy : List ℕ) (fault :
 abbrev pub SessionsAreServed : Type 0
 SessionsAreServed = (files : Option Files) (plan store entropy : List ℕ) (old new : Streams) (ended : Result (Unit {0}) SessionEnd)
     (s : SatOver files plan store entropy old new ended) (turns : List Turn) (world : World)
-    → (r : Recorded (setting_of s.made.planned.plan s.opened) (first_state s.made.planned.plan s.opened s.bytes) s.booted s.mid s.calls s.records s.finish turns)
-    → IsWorld (setting_of s.made.planned.plan s.opened) (first_state s.made.planned.plan s.opened s.bytes) world (heard_of s.booted ++ heard_of (calls_of turns))
-    → AreSealed (setting_of s.made.planned.plan s.opened) world (moment (first_state s.made.planned.plan s.opened s.bytes) s.mid (heard_of s.booted) []) turns
+    → AreUnrecorded s.made.planned.plan.lines
+    → (r : Recorded (setting_of s.made.planned.plan s.opened) (first_state s.made.planned.plan s.opened) (sealings_of s.opened) s.booted s.mid s.calls s.records s.finish turns)
+    → IsWorld (setting_of s.made.planned.plan s.opened) (first_state s.made.planned.plan s.opened) world (heard_of s.booted ++ heard_of (calls_of turns))
+    → AreSealed (setting_of s.made.planned.plan s.opened) world (moment (first_state s.made.planned.plan s.opened) s.mid (heard_of s.booted) (sealings_of s.opened)) turns
     (moment r.state s.finish (heard_of s.booted ++ heard_of (calls_of turns)) r.sealed) r.plain
     → RunServed s.made.planned.plan s.made.stock.held (StaysHeld (setting_of s.made.planned.plan s.opened) turns) (setting_of s.made.planned.plan s.opened) world
-    (moment (first_state s.made.planned.plan s.opened s.bytes) s.mid (heard_of s.booted) []) turns
+    (moment (first_state s.made.planned.plan s.opened) s.mid (heard_of s.booted) (sealings_of s.opened)) turns
     (moment r.state s.finish (heard_of s.booted ++ heard_of (calls_of turns)) r.sealed)
 
 -- In such a session each get of a record that stands has its text, or want of memory; each put that may be made is answered with 0,
@@ -168,9 +170,10 @@ SessionsAreServed = (files : Option Files) (plan store entropy : List ℕ) (old 
 abbrev pub RecordsAreServed : Type 0
 RecordsAreServed = (files : Option Files) (plan store entropy : List ℕ) (old new : Streams) (ended : Result (Unit {0}) SessionEnd)
     (s : SatOver files plan store entropy old new ended) (turns : List Turn)
-    → (r : Recorded (setting_of s.made.planned.plan s.opened) (first_state s.made.planned.plan s.opened s.bytes) s.booted s.mid s.calls s.records s.finish turns)
+    → AreUnrecorded s.made.planned.plan.lines
+    → (r : Recorded (setting_of s.made.planned.plan s.opened) (first_state s.made.planned.plan s.opened) (sealings_of s.opened) s.booted s.mid s.calls s.records s.finish turns)
     → RunKept (FitsInstance s.made.planned.plan s.made.stock.held) (setting_of s.made.planned.plan s.opened)
-    (moment (first_state s.made.planned.plan s.opened s.bytes) s.mid (heard_of s.booted) []) turns
+    (moment (first_state s.made.planned.plan s.opened) s.mid (heard_of s.booted) (sealings_of s.opened)) turns
     (moment r.state s.finish (heard_of s.booted ++ heard_of (calls_of turns)) r.sealed)
 
 -- Where the host holds at first what each line of the plan needs, and what it holds for items stays, each frame of such a session
@@ -178,9 +181,10 @@ RecordsAreServed = (files : Option Files) (plan store entropy : List ℕ) (old n
 abbrev pub HonestHostsCauseNone : Type 0
 HonestHostsCauseNone = (files : Option Files) (plan store entropy : List ℕ) (old new : Streams) (ended : Result (Unit {0}) SessionEnd)
     (s : SatOver files plan store entropy old new ended) (turns : List Turn) (world : World)
-    → (r : Recorded (setting_of s.made.planned.plan s.opened) (first_state s.made.planned.plan s.opened s.bytes) s.booted s.mid s.calls s.records s.finish turns)
-    → IsWorld (setting_of s.made.planned.plan s.opened) (first_state s.made.planned.plan s.opened s.bytes) world (heard_of s.booted ++ heard_of (calls_of turns))
-    → AreSealed (setting_of s.made.planned.plan s.opened) world (moment (first_state s.made.planned.plan s.opened s.bytes) s.mid (heard_of s.booted) []) turns
+    → AreUnrecorded s.made.planned.plan.lines
+    → (r : Recorded (setting_of s.made.planned.plan s.opened) (first_state s.made.planned.plan s.opened) (sealings_of s.opened) s.booted s.mid s.calls s.records s.finish turns)
+    → IsWorld (setting_of s.made.planned.plan s.opened) (first_state s.made.planned.plan s.opened) world (heard_of s.booted ++ heard_of (calls_of turns))
+    → AreSealed (setting_of s.made.planned.plan s.opened) world (moment (first_state s.made.planned.plan s.opened) s.mid (heard_of s.booted) (sealings_of s.opened)) turns
     (moment r.state s.finish (heard_of s.booted ++ heard_of (calls_of turns)) r.sealed) r.plain
     → Fits s.made.planned.plan world s.made.stock.held
     → ((k : ℕ) (l : PlanLine) → item_line s.made.planned.plan.lines k ≡ Some l → StaysHeld (setting_of s.made.planned.plan s.opened) turns l)
