@@ -10,8 +10,8 @@ use Rattle.guest_names.proofs.Making.{files_opened}
 use Rattle.guest_rules.specs.Run.{AreOpened}
 use Rattle.guest_cli.specs.Booted.{Opened, Opens, first_state}
 
-pub opened_first : (text : List ℕ) (plan : Known) (own : Exchanges) (o : Opened) (entropy : List ℕ) → IsPlan text plan → Opens plan own o → AreOpened (first_state plan o entropy) own
+pub opened_first : (text : List ℕ) (plan : Known) (own : Exchanges) (o : Opened) (entropy : List ℕ) → IsPlan text plan → Opens plan entropy own o → AreOpened (first_state plan o) own
 opened_first text plan own o entropy grammar opens n f there =
-    let p = files_opened text plan own _ grammar opens.boots n f there in
+    let p = files_opened text plan entropy own _ grammar opens.boots n f there in
     let digest : p.digest ≡ f.digest = sym (ap (λ (x : MeasuredFile). x.digest) p.opened.describes.file_is) in
     subst (λ (d : Digest). WasOpened f.file d own f) digest (subst (λ (k : ℕ). WasOpened k p.digest own f) (sym p.number_is) p.opened)

@@ -3,7 +3,6 @@ use Rattle.std.proofs.Common.{◌≡◌, ℕ, List, [], ◌∷◌, ◌++◌, len
 use Rattle.host_traits.specs.declared.calls.TapeItem.{TapeItem}
 use Rattle.host_traits.specs.Folders.{Files, Errand}
 use Rattle.host_traits.specs.Held.{Held}
-use Rattle.host_traits.specs.Did.{Did}
 use Rattle.host_traits.specs.Told.{Told, Talked, Made, Calls, heard_of, taken}
 use Rattle.host_traits.proofs.Talking.{talked_on}
 use Rattle.host_tape.specs.Tape.{tape_bytes}
@@ -24,8 +23,10 @@ use Rattle.guest_cli.specs.declared.status.Status.{Status}
 use Rattle.guest_cli.specs.declared.status.Status.TheVariants.{BootFault, Done, Usage, PlanFault, FileFault, TapeFault, StoreFault, ReadFault, WriteFault, BadFrame as BadFrameStatus, TooMuch, Memory, Unbuilt}
 use Rattle.guest_cli.specs.Session.{Streams, IsSession}
 use Rattle.guest_boot.specs.declared.faults.BootFault.{BootFault as Fault}
+use Rattle.guest_boot.specs.Recording.{DidWriting}
 use Rattle.guest_boot.specs.Booting.{IsForLines, most_of}
-use Rattle.guest_cli.specs.Booted.{Opened, BootedOutcome, BootsOver, Unbooted, setting_of, first_state, boot_status}
+use Rattle.instance_image.specs.Sealings.{Sealing}
+use Rattle.guest_cli.specs.Booted.{Opened, BootedOutcome, BootsOver, Unbooted, setting_of, first_state, sealings_of, boot_status}
 use Rattle.guest_cli.specs.Outside.{Quiet, status_of, refused}
 use Rattle.guest_cli.specs.Serve.{before, Recorded, SatOver, Kept, Unkept, ServesList}
 use Rattle.guest_cli.specs.Loads.{IsStocked, IsServed, IsUnserved, SatOutcome, StoreOutcome, StoresCause}
@@ -40,22 +41,22 @@ some_same x y e = cc
 fresh_told : (m : Mem) (count : Count) → m.count ≡ count → count ≡ unused → told_with (mem_told m) nothing ≡ before (mem_held m)
 fresh_told m count is e = rw (is, e) refl
 
-recorded : (g : Setting) (first : State) (m : Mem) (booted : List Made) (t : State) (mid r : Recorder Mem) (turns : List Turn) → Talked (before (mem_held m)) (told_with (mem_told mid.host) mid.kept) booted
+recorded : (g : Setting) (first : State) (sealings : List Sealing) (m : Mem) (booted : List Made) (t : State) (mid r : Recorder Mem) (turns : List Turn) → Talked (before (mem_held m)) (told_with (mem_told mid.host) mid.kept) booted
     → AreOpened first (heard_of booted) → Runs g first t (told_with (mem_told mid.host) mid.kept) (told_with (mem_told r.host) r.kept) turns
-    → Recorded g first booted (told_with (mem_told mid.host) mid.kept) r.kept.calls r.kept.items (told_with (mem_told r.host) r.kept) turns
-recorded g first m booted t mid r turns boot opened runs =
+    → Recorded g first sealings booted (told_with (mem_told mid.host) mid.kept) r.kept.calls r.kept.items (told_with (mem_told r.host) r.kept) turns
+recorded g first sealings m booted t mid r turns boot opened runs =
     let finish : Told = told_with (mem_told r.host) r.kept in
     let start : Told = told_with (mem_told mid.host) mid.kept in
     let all = talked_on (before (mem_held m)) start finish booted (calls_of turns) boot runs.talked in
-    let plain = runs.run (heard_of booted) [] in
+    let plain = runs.run (heard_of booted) sealings in
     record {
       talked = runs.talked;
       made = sym (some_same (calls_in r.kept.calls r.kept.items) (taken None (booted ++ calls_of turns)) all.made);
       faults = refl;
       state = t;
-      sealed = runs.sealed;
+      sealed = sealings ++ runs.sealed;
       plain = plain;
-      run = λ world w sealed. runs_stand g world (moment first start (heard_of booted) []) turns (moment t finish (heard_of booted ++ heard_of (calls_of turns)) runs.sealed) opened w plain sealed;
+      run = λ world w sealed. runs_stand g world (moment first start (heard_of booted) sealings) turns (moment t finish (heard_of booted ++ heard_of (calls_of turns)) (sealings ++ runs.sealed)) opened w plain sealed;
     }
 
 -- the same start, said of the host that was given
@@ -64,36 +65,36 @@ from_before m old same none unused_is = ap (λ (h : Mem). told_with (mem_told h)
 
 -- the session over a recorder before a host that was not called yet, behind a boot over it
 pub sat_over : (opened : Opened) (g : Setting) (st : State) (entropy : List ℕ) (m : Mem) (booted : List Made) (t : State) (old mid r : Recorder Mem) (old_s new_s : Streams) (e : Result (Unit {0}) SessionEnd) (plan : Known)
-    → g ≡ setting_of plan opened → st ≡ first_state plan opened entropy
-    → old.host ≡ m → old.kept ≡ nothing → m.count ≡ unused → BootsOver plan (told_with (mem_told old.host) old.kept) (told_with (mem_told mid.host) mid.kept) booted opened → AreOpened (first_state plan opened entropy) (heard_of booted)
+    → g ≡ setting_of plan opened → st ≡ first_state plan opened
+    → old.host ≡ m → old.kept ≡ nothing → m.count ≡ unused → BootsOver plan entropy (told_with (mem_told old.host) old.kept) (told_with (mem_told mid.host) mid.kept) booted opened → AreOpened (first_state plan opened) (heard_of booted)
     → IsSession (Runs g st t (told_with (mem_told mid.host) mid.kept) (told_with (mem_told r.host) r.kept)) (told_with (mem_told r.host) r.kept) old_s new_s e
     → IsServed plan (mem_held m) entropy old_s new_s e r (told_with (mem_told r.host) r.kept)
 sat_over opened g st entropy m booted t old mid r old_s new_s e plan setting state same none unused_is boots there d =
     let start : Told = told_with (mem_told mid.host) mid.kept in
     let finish : Told = told_with (mem_told r.host) r.kept in
-    let from : BootsOver plan (before (mem_held m)) start booted opened = subst (λ (z : Told). BootsOver plan z start booted opened) (from_before m old same none unused_is) boots in
+    let from : BootsOver plan entropy (before (mem_held m)) start booted opened = subst (λ (z : Told). BootsOver plan entropy z start booted opened) (from_before m old same none unused_is) boots in
     record {
       opened = opened;
       booted = booted;
       mid = start;
       boots = from;
-      session = session_so _ _ (λ turns runs. recorded (setting_of plan opened) (first_state plan opened entropy) m booted t mid r turns from.talked there
-          (subst (λ (z : Setting). Runs z (first_state plan opened entropy) t start finish turns) setting (subst (λ (s : State). Runs g s t start finish turns) state runs))) finish old_s new_s e d;
+      session = session_so _ _ (λ turns runs. recorded (setting_of plan opened) (first_state plan opened) (sealings_of opened) m booted t mid r turns from.talked there
+          (subst (λ (z : Setting). Runs z (first_state plan opened) t start finish turns) setting (subst (λ (s : State). Runs g s t start finish turns) state runs))) finish old_s new_s e d;
       held_is = refl;
     }
 
-unserved_by : (plan : Known) (m : Mem) (entropy : List ℕ) (fault : Fault) (old_s new_s : Streams) (status : Status) → status ≡ boot_status fault → Quiet old_s new_s → (boot_status fault ≡ Memory) ⊎ ((boot_status fault ≡ BootFault fault) × Unbooted plan (before (mem_held m)) fault)
+unserved_by : (plan : Known) (m : Mem) (entropy : List ℕ) (fault : Fault) (old_s new_s : Streams) (status : Status) → status ≡ boot_status fault → Quiet old_s new_s → (boot_status fault ≡ Memory) ⊎ ((boot_status fault ≡ BootFault fault) × Unbooted plan entropy (before (mem_held m)) fault)
     → SatOutcome plan (mem_held m) entropy old_s new_s (Err status)
 unserved_by plan m entropy fault old_s new_s status is quiet (inl e) = inl (is ∙ e, quiet)
 unserved_by plan m entropy fault old_s new_s status is quiet (inr f) = inr (inl (record { fault = fault; status_is = is ∙ f.0; fails = f.1; quiet = quiet }))
 
 -- a boot over it that failed
 pub unserved : (plan : Known) (m : Mem) (entropy : List ℕ) (old : Recorder Mem) (finish : Told) (fault : Fault) (old_s new_s : Streams) (status : Status) → status ≡ boot_status fault → old.host ≡ m → old.kept ≡ nothing → m.count ≡ unused → Quiet old_s new_s
-    → Did (IsForLines plan.lines) (most_of plan.lines) (told_with (mem_told old.host) old.kept) finish (BootedOutcome plan entropy (Err fault))
+    → DidWriting (IsForLines plan.lines) (most_of plan.lines) (told_with (mem_told old.host) old.kept) finish (BootedOutcome plan entropy (Err fault))
     → SatOutcome plan (mem_held m) entropy old_s new_s (Err status)
 unserved plan m entropy old finish fault old_s new_s status is same none unused_is quiet d =
     unserved_by plan m entropy fault old_s new_s status is quiet
-    (boot_fails plan entropy (before (mem_held m)) finish fault (subst (λ (z : Told). Did (IsForLines plan.lines) (most_of plan.lines) z finish (BootedOutcome plan entropy (Err fault))) (from_before m old same none unused_is) d))
+    (boot_fails plan entropy (before (mem_held m)) finish fault (subst (λ (z : Told). DidWriting (IsForLines plan.lines) (most_of plan.lines) z finish (BootedOutcome plan entropy (Err fault))) (from_before m old same none unused_is) d))
 
 -- ---- what is stored
 
@@ -154,12 +155,12 @@ module _ (files : Option Files) (plan store entropy : List ℕ) (k : Known) (lin
     opened = served.opened;
     booted = served.booted;
     mid = served.mid;
-    boots = subst (λ (h : Held). BootsOver stocked.made.planned.plan (before h) served.mid served.booted served.opened) (sym stocked.held_is)
-        (subst (λ (p : Known). BootsOver p (before held) served.mid served.booted served.opened) (sym stocked.plan_is) served.boots);
+    boots = subst (λ (h : Held). BootsOver stocked.made.planned.plan bytes (before h) served.mid served.booted served.opened) (sym stocked.held_is)
+        (subst (λ (p : Known). BootsOver p bytes (before held) served.mid served.booted served.opened) (sym stocked.plan_is) served.boots);
     calls = r.kept.calls;
     records = r.kept.items;
     finish = finish;
-    session = subst (λ (p : Known). IsSession (Recorded (setting_of p served.opened) (first_state p served.opened bytes) served.booted served.mid r.kept.calls r.kept.items finish) finish old new e) (sym stocked.plan_is) served.session;
+    session = subst (λ (p : Known). IsSession (Recorded (setting_of p served.opened) (first_state p served.opened) (sealings_of served.opened) served.booted served.mid r.kept.calls r.kept.items finish) finish old new e) (sym stocked.plan_is) served.session;
   }
 
   kept_with : (out : List ℕ) (r : Recorder Mem) (finish : Told) (stocked : IsStocked files plan store entropy k lines held bytes) (served : IsServed k held bytes old new (Ok tt) r finish) → length r.kept.calls ≡ length r.kept.items → (Storing : List Parcel → Type 0)
@@ -206,8 +207,8 @@ module _ (files : Option Files) (plan store entropy : List ℕ) (k : Known) (lin
           made = stocked.made;
           bytes = bytes;
           bytes_there = stocked.entropy_there;
-          fails = subst (λ (h : Held). Unbooted stocked.made.planned.plan (before h) u.fault) (sym stocked.held_is)
-              (subst (λ (p : Known). Unbooted p (before held) u.fault) (sym stocked.plan_is) u.fails);
+          fails = subst (λ (h : Held). Unbooted stocked.made.planned.plan bytes (before h) u.fault) (sym stocked.held_is)
+              (subst (λ (p : Known). Unbooted p bytes (before held) u.fault) (sym stocked.plan_is) u.fails);
         },
         record { quiet = u.quiet; unchanged = refl },
       )

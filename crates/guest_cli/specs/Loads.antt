@@ -22,7 +22,7 @@ use Rattle.guest_cli.specs.declared.session.SessionEnd.{SessionEnd}
 use Rattle.guest_cli.specs.declared.status.Form.TheVariants.{Plan as PlanForm}
 use Rattle.guest_cli.specs.declared.status.Status.{Status}
 use Rattle.guest_cli.specs.declared.status.Status.TheVariants.{Done, BootFault, PlanFault, FileFault, TapeFault, StoreFault, TooMuch, Memory, Unbuilt}
-use Rattle.guest_cli.specs.Booted.{Opened, BootsOver, Unbooted, setting_of, first_state}
+use Rattle.guest_cli.specs.Booted.{Opened, BootsOver, Unbooted, setting_of, first_state, sealings_of}
 use Rattle.guest_cli.specs.Planned.{first_unbuilt}
 use Rattle.guest_cli.specs.Session.{Streams, IsSession}
 use Rattle.guest_cli.specs.Outside.{IsLoadedBehind, PlanRead, PlanBroken, PlanUnbuilt, Quiet, status_of}
@@ -102,22 +102,22 @@ pub record IsPlayed (plan : Known) (tape : Played) (entropy : List ℕ) (old new
   pub opened : Opened
   pub booted : List Made
   pub mid : Told
-  pub boots : BootsOver plan (tape_told tape) mid booted opened
+  pub boots : BootsOver plan entropy (tape_told tape) mid booted opened
   pub finish : Told
   pub ended : Result (Unit {0}) SessionEnd
   pub status_is : status ≡ status_of ended
   pub session : IsSession
-      (Replayed (setting_of plan opened) (first_state plan opened entropy) tape.records booted mid finish) finish old new ended
+      (Replayed (setting_of plan opened) (first_state plan opened) (sealings_of opened) tape.records booted mid finish) finish old new ended
 
 -- a line was not opened
-pub record IsUnplayed (plan : Known) (tape : Played) (old new : Streams) (status : Status) : Type 0 where
+pub record IsUnplayed (plan : Known) (tape : Played) (entropy : List ℕ) (old new : Streams) (status : Status) : Type 0 where
   pub fault : Fault
   pub status_is : status ≡ BootFault fault
-  pub fails : Unbooted plan (tape_told tape) fault
+  pub fails : Unbooted plan entropy (tape_told tape) fault
   pub quiet : Quiet old new
 
 abbrev pub PlayOutcome : Known → Played → List ℕ → Streams → Streams → Status → Type 0
-PlayOutcome plan tape entropy old new status = ((status ≡ Memory) × Quiet old new) ⊎ IsUnplayed plan tape old new status ⊎ IsPlayed plan tape entropy old new status
+PlayOutcome plan tape entropy old new status = ((status ≡ Memory) × Quiet old new) ⊎ IsUnplayed plan tape entropy old new status ⊎ IsPlayed plan tape entropy old new status
 
 -- ---- a session over the host of a store list
 
@@ -145,24 +145,24 @@ pub record IsServed (plan : Known) (held : Held) (entropy : List ℕ) (old new :
   pub opened : Opened
   pub booted : List Made
   pub mid : Told
-  pub boots : BootsOver plan (before held) mid booted opened
+  pub boots : BootsOver plan entropy (before held) mid booted opened
   pub session : IsSession
-      (Recorded (setting_of plan opened) (first_state plan opened entropy) booted mid r.kept.calls r.kept.items finish)
+      (Recorded (setting_of plan opened) (first_state plan opened) (sealings_of opened) booted mid r.kept.calls r.kept.items finish)
       finish old new ended
   pub held_is : finish.held ≡ Some (mem_held r.host)
 
 -- a line was not opened
-pub record IsUnserved (plan : Known) (held : Held) (old new : Streams) (status : Status) : Type 0 where
+pub record IsUnserved (plan : Known) (held : Held) (entropy : List ℕ) (old new : Streams) (status : Status) : Type 0 where
   pub fault : Fault
   pub status_is : status ≡ BootFault fault
-  pub fails : Unbooted plan (before held) fault
+  pub fails : Unbooted plan entropy (before held) fault
   pub quiet : Quiet old new
 
 abbrev pub SatOutcome : Known → Held → List ℕ → Streams → Streams → Result (Recorder Mem) Status → Type 0
 SatOutcome plan held entropy old new (Ok r) = (finish : Told) × IsServed plan held entropy old new (Ok tt) r finish
 SatOutcome plan held entropy old new (Err status) =
     ((status ≡ Memory) × Quiet old new)
-    ⊎ IsUnserved plan held old new status
+    ⊎ IsUnserved plan held entropy old new status
     ⊎ ((why : SessionEnd) × (status ≡ status_of (Err why)) × (r : Recorder Mem) × (finish : Told) × IsServed plan held entropy old new (Err why) r finish)
 
 -- the tape of these records was stored, and then what the lines keep of what is held

@@ -1,17 +1,14 @@
 -- The first line of a plan that asks for what isn't served yet.
 use Rattle.std.specs.Prelude.{ℕ, List, [], ◌∷◌, Bool, true, false, Option, Some, None, if◌then◌else◌}
-use Rattle.guest_plan.specs.declared.plan.How.TheVariants.{Fixed, First, Kept}
 use Rattle.guest_plan.specs.declared.plan.PlanLine.{PlanLine}
 use Rattle.guest_plan.specs.declared.plan.PlanLine.TheVariants as line
 use Rattle.guest_plan.specs.Plans.{Known}
 
--- the instance image, a measured device, an APK device whose measure is in the plan or the host's, or a read-only file
+-- the instance image, a measured device, an APK device, or a read-only file
 abbrev pub is_built : PlanLine → Bool
 is_built (line.Instance disk part) = true
 is_built (line.Blob file m) = true
-is_built (line.Apk disk apk idsig (Fixed m)) = true
-is_built (line.Apk disk apk idsig First) = true
-is_built (line.Apk disk apk idsig (Kept id)) = false
+is_built (line.Apk disk apk idsig how) = true
 is_built (line.File name file digest) = true
 is_built (line.Write name file) = false
 is_built (line.WriteDir name file) = false

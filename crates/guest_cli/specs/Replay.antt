@@ -14,7 +14,7 @@ use Rattle.guest_cli.specs.declared.status.Form.TheVariants.{Command, Plan}
 use Rattle.guest_cli.specs.declared.status.Status.{Status}
 use Rattle.guest_cli.specs.declared.status.Status.TheVariants.{Usage, BootFault, PlanFault, FileFault, TapeFault, StoreFault, TooMuch, Memory, Unbuilt}
 use Rattle.guest_files.specs.Files.{Passes}
-use Rattle.guest_cli.specs.Booted.{Opened, BootsOver, Unbooted, setting_of, first_state}
+use Rattle.guest_cli.specs.Booted.{Opened, BootsOver, Unbooted, setting_of, first_state, sealings_of}
 use Rattle.guest_cli.specs.Session.{Streams, IsSession}
 use Rattle.guest_cli.specs.Outside.{IsLoadedBehind, Quiet, PlanRead, PlanBroken, PlanUnbuilt, status_of}
 
@@ -22,16 +22,16 @@ use Rattle.guest_cli.specs.Outside.{IsLoadedBehind, Quiet, PlanRead, PlanBroken,
 -- The turns' calls are all that were made from there, failed ones too. What came of each call, boot's before the turns', is what the
 -- tape's next record answers; where that is a failure or of another kind, or there is none, the call failed. The turns are a run of
 -- the machine from the state after boot, in the world without contents, and so in each world that meets the premises; in the run
--- these texts were sealed.
-pub record Replayed (g : Setting) (first : State) (records : List TapeItem) (booted : List Made) (mid finish : Told) (turns : List Turn) : Type 0 where
+-- these texts were sealed, by boot and the turns.
+pub record Replayed (g : Setting) (first : State) (sealings : List Sealing) (records : List TapeItem) (booted : List Made) (mid finish : Told) (turns : List Turn) : Type 0 where
   pub talked : Talked mid finish (calls_of turns)
   pub plays : Plays (Some records) (booted ++ calls_of turns)
   pub state : State
   pub sealed : List Sealing
-  pub plain : Run g nowhere (moment first mid (heard_of booted) []) turns (moment state finish (heard_of booted ++ heard_of (calls_of turns)) sealed)
+  pub plain : Run g nowhere (moment first mid (heard_of booted) sealings) turns (moment state finish (heard_of booted ++ heard_of (calls_of turns)) sealed)
   pub run : (world : World) → IsWorld g first world (heard_of booted ++ heard_of (calls_of turns))
-      → AreSealed g world (moment first mid (heard_of booted) []) turns (moment state finish (heard_of booted ++ heard_of (calls_of turns)) sealed) plain
-      → Run g world (moment first mid (heard_of booted) []) turns (moment state finish (heard_of booted ++ heard_of (calls_of turns)) sealed)
+      → AreSealed g world (moment first mid (heard_of booted) sealings) turns (moment state finish (heard_of booted ++ heard_of (calls_of turns)) sealed) plain
+      → Run g world (moment first mid (heard_of booted) sealings) turns (moment state finish (heard_of booted ++ heard_of (calls_of turns)) sealed)
 
 -- the tape was read, behind so many bytes of other files
 pub record TapeRead (files : Option Files) (name : List ℕ) (before : ℕ) : Type 0 where
@@ -67,18 +67,18 @@ pub record Sat (files : Option Files) (plan tape entropy : List ℕ) (old new : 
   pub opened : Opened
   pub booted : List Made
   pub mid : Told
-  pub boots : BootsOver read.planned.plan (tape_told (unplayed read.taped.records)) mid booted opened
+  pub boots : BootsOver read.planned.plan read.bytes (tape_told (unplayed read.taped.records)) mid booted opened
   pub finish : Told
   pub ended : Result (Unit {0}) SessionEnd
   pub status_is : status ≡ status_of ended
   pub session : IsSession
-      (Replayed (setting_of read.planned.plan opened) (first_state read.planned.plan opened read.bytes) read.taped.records booted mid finish)
+      (Replayed (setting_of read.planned.plan opened) (first_state read.planned.plan opened) (sealings_of opened) read.taped.records booted mid finish)
       finish old new ended
 
 -- a line of the plan was not opened over the tape
 pub record NotBooted (files : Option Files) (plan tape entropy : List ℕ) (fault : Fault) : Type 0 where
   pub read : AllRead files plan tape entropy
-  pub fails : Unbooted read.planned.plan (tape_told (unplayed read.taped.records)) fault
+  pub fails : Unbooted read.planned.plan read.bytes (tape_told (unplayed read.taped.records)) fault
 
 -- the tape's bytes begin no whole record from this place on
 pub record TapeBroken (files : Option Files) (name : List ℕ) (before at : ℕ) : Type 0 where

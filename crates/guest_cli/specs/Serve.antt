@@ -24,7 +24,7 @@ use Rattle.guest_cli.specs.declared.session.SessionEnd.{SessionEnd}
 use Rattle.guest_cli.specs.declared.status.Form.TheVariants.{Command, Plan}
 use Rattle.guest_cli.specs.declared.status.Status.{Status}
 use Rattle.guest_cli.specs.declared.status.Status.TheVariants.{BootFault, Done, Usage, PlanFault, FileFault, TapeFault, StoreFault, TooMuch, Memory, Unbuilt}
-use Rattle.guest_cli.specs.Booted.{Opened, BootsOver, Unbooted, setting_of, first_state}
+use Rattle.guest_cli.specs.Booted.{Opened, BootsOver, Unbooted, setting_of, first_state, sealings_of}
 use Rattle.guest_cli.specs.Session.{Streams, IsSession}
 use Rattle.guest_cli.specs.Outside.{IsLoadedBehind, Quiet, PlanRead, PlanBroken, PlanUnbuilt, status_of}
 
@@ -37,16 +37,16 @@ before held = record { faults = 0; last_failed = None; heard = Some []; made = S
 -- record. Each was answered by what the host then held, or failed where that could not serve it. The turns are a run of the machine
 -- from the state after boot, in the world without contents, and so in each world that meets the premises; in the run these texts
 -- were sealed.
-pub record Recorded (g : Setting) (first : State) (booted : List Made) (mid : Told) (calls : List Call) (records : List TapeItem) (finish : Told) (turns : List Turn) : Type 0 where
+pub record Recorded (g : Setting) (first : State) (sealings : List Sealing) (booted : List Made) (mid : Told) (calls : List Call) (records : List TapeItem) (finish : Told) (turns : List Turn) : Type 0 where
   pub talked : Talked mid finish (calls_of turns)
   pub made : taken None (booted ++ calls_of turns) ≡ calls_in calls records
   pub faults : finish.faults ≡ min (failures records) (2 ^ 64 - 1)
   pub state : State
   pub sealed : List Sealing
-  pub plain : Run g nowhere (moment first mid (heard_of booted) []) turns (moment state finish (heard_of booted ++ heard_of (calls_of turns)) sealed)
+  pub plain : Run g nowhere (moment first mid (heard_of booted) sealings) turns (moment state finish (heard_of booted ++ heard_of (calls_of turns)) sealed)
   pub run : (world : World) → IsWorld g first world (heard_of booted ++ heard_of (calls_of turns))
-      → AreSealed g world (moment first mid (heard_of booted) []) turns (moment state finish (heard_of booted ++ heard_of (calls_of turns)) sealed) plain
-      → Run g world (moment first mid (heard_of booted) []) turns (moment state finish (heard_of booted ++ heard_of (calls_of turns)) sealed)
+      → AreSealed g world (moment first mid (heard_of booted) sealings) turns (moment state finish (heard_of booted ++ heard_of (calls_of turns)) sealed) plain
+      → Run g world (moment first mid (heard_of booted) sealings) turns (moment state finish (heard_of booted ++ heard_of (calls_of turns)) sealed)
 
 -- the store list was read, behind so many bytes of other files
 pub record ListRead (files : Option Files) (name : List ℕ) (before : ℕ) : Type 0 where
@@ -107,12 +107,12 @@ pub record SatOver (files : Option Files) (plan store entropy : List ℕ) (old n
   pub opened : Opened
   pub booted : List Made
   pub mid : Told
-  pub boots : BootsOver made.planned.plan (before made.stock.held) mid booted opened
+  pub boots : BootsOver made.planned.plan bytes (before made.stock.held) mid booted opened
   pub calls : List Call
   pub records : List TapeItem
   pub finish : Told
   pub session : IsSession
-      (Recorded (setting_of made.planned.plan opened) (first_state made.planned.plan opened bytes) booted mid calls records finish)
+      (Recorded (setting_of made.planned.plan opened) (first_state made.planned.plan opened) (sealings_of opened) booted mid calls records finish)
       finish old new ended
 
 -- a line of the plan was not opened over the host
@@ -120,7 +120,7 @@ pub record UnbootedOver (files : Option Files) (plan store entropy : List ℕ) (
   pub made : HostMade files plan store
   pub bytes : List ℕ
   pub bytes_there : IsLoadedBehind made.stock.loaded files entropy bytes
-  pub fails : Unbooted made.planned.plan (before made.stock.held) fault
+  pub fails : Unbooted made.planned.plan bytes (before made.stock.held) fault
 
 -- what is stored after the session: the tape of all calls, a record for each, and then what the list's lines keep of what is held
 pub record IsParcels {files : Option Files} {plan store entropy : List ℕ} {old new : Streams} (s : SatOver files plan store entropy old new (Ok tt)) (out : List ℕ) (parcels : List Parcel) : Type 0 where

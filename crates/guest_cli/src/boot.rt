@@ -1,6 +1,6 @@
 // From a plan to a machine.
 ghost use Rattle.std.specs.Prelude.{◌≡◌, ℕ, List, [], IfOk, None};
-ghost use Rattle.host_traits.specs.Did.{Did};
+ghost use Rattle.guest_boot.specs.Recording.{DidWriting};
 ghost use Rattle.guest_plan.specs.Plans.{known};
 ghost use Rattle.guest_plan.specs.Spelling.{IsPlan};
 ghost use Rattle.guest_boot.specs.Booting.{IsForLines, most_of};
@@ -8,11 +8,10 @@ ghost use Rattle.guest_cli.specs.Planned.{is_built, unbuilt_in, first_unbuilt};
 ghost use Rattle.guest_cli.specs.Booted.{BootedOutcome, records_of};
 
 use crate::engine::Engine;
-use crate::entropy::Entropy;
 use crate::records::Records;
-use guest_boot::{BootCause, BootFault, Opened, open_lines};
+use guest_boot::{BootCause, BootFault, Entropy, Opened, open_lines};
 use guest_names::plant_lines;
-use guest_plan::{How, Plan, PlanLine};
+use guest_plan::{Plan, PlanLine};
 use host_traits::{Host, Raw};
 use instance_image::Image;
 use mg_base::{Memory, Page};
@@ -32,12 +31,10 @@ fn is_built(line: &PlanLine) -> bool
     ensures { result ≡ is_built line.now }
 {
     match line {
-        PlanLine::Instance { .. } | PlanLine::Blob { .. } | PlanLine::File { .. } => true,
-        PlanLine::Apk { how, .. } => match how {
-            How::Fixed(_) => true,
-            How::First => true,
-            How::Kept(_) => false,
-        },
+        PlanLine::Instance { .. }
+        | PlanLine::Blob { .. }
+        | PlanLine::Apk { .. }
+        | PlanLine::File { .. } => true,
         PlanLine::Write { .. } | PlanLine::WriteDir { .. } => false,
     }
 }
@@ -58,8 +55,7 @@ fn unbuilt_in(lines: &[PlanLine], numbers: &[u64]) -> Option<u64>
     Some(*number)
 }
 
-/// The first line of a plan that asks for what isn't served yet: an APK's whose measure is in a record, or that of a writable file or
-/// directory.
+/// The first line of a plan that asks for what isn't served yet: that of a writable file or directory.
 pub fn first_unbuilt(plan: &Plan) -> Option<u64>
     ensures { result ≡ first_unbuilt (known plan.now) }
 {
@@ -111,7 +107,8 @@ fn no_memory() -> BootFault
     }
 }
 
-/// Makes a machine for a plan, by calls of the host: its instance image is opened first, and then its lines in their order. Room for
+/// Makes a machine for a plan, by calls of the host: its instance image is opened first, and then its lines in their order. A measure
+/// that is put into a record takes entropy; the machine has what is left. Room for
 /// one answer, one page, one reply and one frame is taken here, and none later: over a host that takes no memory, a measured read
 /// takes none.
 pub fn boot<H: Host>(
@@ -122,7 +119,7 @@ pub fn boot<H: Host>(
 ) -> Result<Machine, BootFault>
     requires plan { (text : List ℕ) × IsPlan text (known plan.now) }
     requires built { first_unbuilt (known plan.now) ≡ None }
-    ensures booted { Did (IsForLines plan.now.lines.items) (most_of plan.now.lines.items)
+    ensures booted { DidWriting (IsForLines plan.now.lines.items) (most_of plan.now.lines.items)
         (H.told host.old) (H.told host.new) (BootedOutcome (known plan.now) entropy result) }
     ensures splitter { IfOk result (λ m. m.splitter ≡ record { held = []; at = 0 }) }
 {
@@ -138,7 +135,8 @@ pub fn boot<H: Host>(
         items,
         files,
         image,
-    } = match open_lines(alloc, host, plan, &mut buf.raw) {
+        entropy,
+    } = match open_lines(alloc, host, plan, entropy, &mut buf.raw) {
         Ok(opened) => opened,
         Err(fault) => return Err(fault),
     };

@@ -9,10 +9,10 @@ ghost use Rattle.guest_rules.specs.Faithful.{RequestIsServed};
 ghost use Rattle.guest_cli.specs.Turns.{framed};
 ghost use Rattle.guest_cli.specs.Works.{answer_to_read, message_frame, instance_of, parts_of};
 
-use crate::entropy::Entropy;
 use crate::records::{Records, answer_get, answer_put};
 use fuse_codec::FuseReply;
 use fuse_server::Server;
+use guest_boot::Entropy;
 use host_traits::Host;
 use session_frames::ReplyFrame;
 use std::alloc::Global;

@@ -3,7 +3,6 @@
 
 pub mod boot;
 pub mod engine;
-pub mod entropy;
 pub mod log;
 mod outside;
 mod records;
@@ -16,7 +15,6 @@ pub mod words;
 
 pub use crate::boot::Machine;
 pub use crate::engine::{Engine, FrameAnswer, answer_frame};
-pub use crate::entropy::Entropy;
 pub use crate::session::SessionEnd;
 pub use crate::status::{Form, Status};
 pub use crate::top::guest;

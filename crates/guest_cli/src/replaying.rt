@@ -10,10 +10,10 @@ ghost use Rattle.guest_cli.specs.Replay.{Replays};
 ghost use Rattle.guest_cli.specs.Loads.{Taped, IsReady, InputsFail, InputsCause, PlayOutcome};
 
 use crate::boot::boot;
-use crate::entropy::Entropy;
 use crate::outside::{boot_status, load, made_status, planned};
 use crate::session::session;
 use crate::status::Status;
+use guest_boot::Entropy;
 use guest_plan::Plan;
 use host_tape::{Tape, TapeFault, read_tape};
 use host_traits::{Folder, Sink, Source};

@@ -11,10 +11,10 @@ ghost use Rattle.guest_cli.specs.Guest.{FileCause};
 ghost use Rattle.guest_cli.specs.Loads.{Listed, IsStocked, ServedFails, InputsCause, SatOutcome, StoreOutcome, StoresCause};
 
 use crate::boot::boot;
-use crate::entropy::Entropy;
 use crate::outside::{boot_status, load, made_status, planned, refused};
 use crate::session::session;
 use crate::status::Status;
+use guest_boot::Entropy;
 use guest_files::{keep, stock, store_file};
 use guest_plan::{Plan, PlanFault, Store, StoreLine, read_store};
 use host_mem::MemHost;

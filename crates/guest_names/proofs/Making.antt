@@ -10,17 +10,32 @@ use Rattle.ro_file.specs.Opening.{Describes, WasOpened}
 use Rattle.ro_file.proofs.Standing.{opened_left, opened_right}
 use Rattle.guest_plan.specs.declared.plan.PlanLine.{PlanLine}
 use Rattle.guest_plan.specs.declared.plan.PlanLine.TheVariants as line
-use Rattle.guest_boot.specs.Booting.{Booted, Boots, LineBoots, PlanBoots, before_lines}
+use Rattle.sha_tree.specs.declared.measure.Measure.{Measure}
+use Rattle.instance_image.specs.Records.{Kept}
+use Rattle.guest_plan.specs.declared.plan.How.{How}
+use Rattle.guest_plan.specs.declared.plan.How.TheVariants as measures
+use Rattle.guest_boot.specs.Booting.{Booted, Boots, LineBoots, ApkBootsBy, MeasureIsIn, PlanBoots, before_lines}
 use Rattle.guest_names.specs.Standing.{NamedFile, file_in, and_files, files_in, file_count}
 use Rattle.guest_names.specs.Promises.{IsPlannedFile, FilesAreCounted, FilesAreOpened}
 use Rattle.guest_names.proofs.Apart.{plan_plantable}
 use Rattle.guest_names.proofs.Files.{WasMade, AreMade, IsFound, found}
 
+-- ---- an APK device leaves the files as they are
+
+kept_files : (s mid : Booted) (image : Kept) (secret uuid : List ℕ) (kept : Option Measure) (m : Measure) (own : Exchanges) → MeasureIsIn s image secret uuid kept m own mid → mid.files ≡ s.files
+kept_files s mid image secret uuid (Some g) m own b = ap (λ (x : Booted). x.files) b.1
+kept_files s mid image secret uuid None m own b = ap (λ (x : Booted). x.files) b.new_is
+
+apk_files : (s mid : Booted) (disk : ℕ) (apk idsig : List ℕ) (how : How) (own : Exchanges) → ApkBootsBy s disk apk idsig how own mid → mid.files ≡ s.files
+apk_files s mid disk apk idsig (measures.Fixed m) own b = ap (λ (x : Booted). x.files) b.new_is
+apk_files s mid disk apk idsig measures.First own b = ap (λ (x : Booted). x.files) b.new_is
+apk_files s mid disk apk idsig (measures.Kept uuid) own b = kept_files _ mid b.behind.image b.behind.secret uuid.0 b.behind.measure b.behind.boots.device.measure b.behind.put b.behind.kept
+
 -- ---- as many as lines that name one
 
 line_counted : (s mid : Booted) (l : PlanLine) (own : Exchanges) → LineBoots s l own mid → length mid.files ≡ length s.files + length (and_files (file_in l) [])
 line_counted s mid (line.Blob file m) own b = ap (λ (x : Booted). length x.files) b.1 ∙ omega arith
-line_counted s mid (line.Apk disk apk idsig how) own b = ap (λ (x : Booted). length x.files) b.new_is ∙ omega arith
+line_counted s mid (line.Apk disk apk idsig how) own b = ap (λ (x : List MeasuredFile). length x) (apk_files s mid disk apk idsig how own b) ∙ omega arith
 line_counted s mid (line.File name file digest) own b = ap (λ (x : Booted). length x.files) b.new_is ∙ length-append s.files (b.opened ∷ [])
 line_counted s mid (line.Instance disk part) own b = ap (λ (x : Booted). length x.files) b.1 ∙ omega arith
 line_counted s mid (line.Write name file) own b = absurd b
@@ -36,7 +51,7 @@ counted_on (l ∷ lines) s new own (first, rest, mid, cut, mine, later) =
     omega (arith, counted_on lines mid new rest later, line_counted s mid l first mine, and_count (file_in l) (files_in lines))
 
 pub counted : FilesAreCounted
-counted salt lines own booted b = counted_on lines (before_lines b.tables b.image) booted b.rest b.others ∙ omega arith
+counted means lines own booted b = counted_on lines (before_lines b.tables b.image means.secret means.entropy) booted b.rest b.others ∙ omega arith
 
 -- ---- each was opened by what was heard
 
@@ -84,7 +99,7 @@ adds_one x y own s mid new g f files cut more m a = record {
 adds : (lines : List PlanLine) (s new : Booted) (own : Exchanges) → Boots s lines own new → Adds own s new (files_in lines)
 adds [] s new own b = record { made = []; are = ap (λ (x : Booted). x.files) b.1 ∙ sym (append-nil s.files); each = tt }
 adds (line.Blob file m ∷ lines) s new own (first, rest, mid, cut, mine, later) = adds_same first rest own s mid new (files_in lines) cut (ap (λ (x : Booted). x.files) mine.1) (adds lines mid new rest later)
-adds (line.Apk disk apk idsig how ∷ lines) s new own (first, rest, mid, cut, mine, later) = adds_same first rest own s mid new (files_in lines) cut (ap (λ (x : Booted). x.files) mine.new_is) (adds lines mid new rest later)
+adds (line.Apk disk apk idsig how ∷ lines) s new own (first, rest, mid, cut, mine, later) = adds_same first rest own s mid new (files_in lines) cut (apk_files s mid disk apk idsig how first mine) (adds lines mid new rest later)
 adds (line.File name file digest ∷ lines) s new own (first, rest, mid, cut, mine, later) =
     let g : NamedFile = record { name = name; number = file; digest = digest } in
     let here : IsIn (DescriptorOf file) (Bytes mine.bytes) first = rw mine.own_is (inl refl) in
@@ -104,8 +119,8 @@ planned lines own n f w = record {
 }
 
 pub files_opened : FilesAreOpened
-files_opened text plan own booted p b n f is =
-    let a = adds plan.lines (before_lines b.tables b.image) booted b.rest b.others in
+files_opened text plan entropy own booted p b n f is =
+    let a = adds plan.lines (before_lines b.tables b.image plan.secret entropy) booted b.rest b.others in
     let later : AreMade b.rest (files_in plan.lines) booted.files = subst (AreMade b.rest (files_in plan.lines)) (sym a.are) a.each in
     let made : AreMade own (files_in plan.lines) booted.files =
     subst (λ (z : Exchanges). AreMade z (files_in plan.lines) booted.files) (sym b.cut) (all_right b.first b.rest (files_in plan.lines) booted.files later) in

@@ -15,7 +15,7 @@ use Rattle.guest_plan.specs.declared.plan.PlanLine.{PlanLine}
 use Rattle.guest_plan.specs.declared.plan.PlanLine.TheVariants as line
 use Rattle.guest_plan.specs.Plans.{Known}
 use Rattle.guest_plan.specs.Spelling.{IsPlan}
-use Rattle.guest_boot.specs.Booting.{Booted, PlanBoots}
+use Rattle.guest_boot.specs.Booting.{Booted, Means, means_of, PlanBoots}
 use Rattle.guest_names.specs.Standing.{file_count, names_at_boot, files_at_boot, at_boot, digest_in}
 
 -- ---- the files
@@ -31,11 +31,11 @@ pub record IsPlannedFile (lines : List PlanLine) (heard : Exchanges) (number : �
 
 -- Law: boot opens one file for each line that names one.
 abbrev pub FilesAreCounted : Type 0
-FilesAreCounted = (salt : Option (List ℕ)) (lines : List PlanLine) (own : Exchanges) (booted : Booted) → PlanBoots salt lines own booted → length booted.files ≡ file_count lines
+FilesAreCounted = (means : Means) (lines : List PlanLine) (own : Exchanges) (booted : Booted) → PlanBoots means lines own booted → length booted.files ≡ file_count lines
 
 -- Law: each file that stands after boot is such.
 abbrev pub FilesAreOpened : Type 0
-FilesAreOpened = (text : List ℕ) (plan : Known) (own : Exchanges) (booted : Booted) → IsPlan text plan → PlanBoots plan.salt plan.lines own booted →
+FilesAreOpened = (text : List ℕ) (plan : Known) (entropy : List ℕ) (own : Exchanges) (booted : Booted) → IsPlan text plan → PlanBoots (means_of plan entropy) plan.lines own booted →
     (number : ℕ) (f : MeasuredFile) → file_at (files_at_boot plan.lines booted.files) number ≡ Some f → IsPlannedFile plan.lines own number f
 
 -- ---- the names

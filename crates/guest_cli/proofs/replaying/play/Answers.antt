@@ -13,15 +13,15 @@ returns-in-Err-clause-played g c =
 pub returns-clause-played : goal.returns-clause-played
 returns-clause-played g c =
     let d = c.in-Ok.ensures.booted in
-    let m = d.outcome.1 in
+    let m = d.did.outcome.1 in
     inr (inr (record {
       opened = m.opened;
-      booted = d.own;
+      booted = d.did.own;
       mid = tape_told c.boot.new.host;
       boots = booted_over (known c.args.inputs.plan) c.args.inputs.entropy _ _ c.in-Ok.machine d;
       finish = tape_told c.session-ended.new.host;
       ended = c.session-ended.result;
       status_is = c.made_status.ensures;
-      session = tape_session c.in-Ok.machine.engine.setting _ _ _ c.args.inputs.tape d.own c.session-ended.new.engine.state (tape_told c.boot.new.host) (tape_told c.session-ended.new.host) _ _ c.session-ended.result m.setting m.state c.requires.fresh d.talked
-          (opened_first c.requires.plan.0 (known c.args.inputs.plan) (heard_of d.own) m.opened c.args.inputs.entropy c.requires.plan.1 m.opens) c.session-ended.ensures.run;
+      session = tape_session c.in-Ok.machine.engine.setting _ _ _ _ c.args.inputs.tape d.did.own c.session-ended.new.engine.state (tape_told c.boot.new.host) (tape_told c.session-ended.new.host) _ _ c.session-ended.result m.setting m.state c.requires.fresh d.did.talked
+          (opened_first c.requires.plan.0 (known c.args.inputs.plan) (heard_of d.did.own) m.opened c.args.inputs.entropy c.requires.plan.1 m.opens) c.session-ended.ensures.run;
     }))

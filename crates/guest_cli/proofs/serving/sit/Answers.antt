@@ -17,9 +17,9 @@ returns-in-Err-clause-sat g c =
 pub returns-in-Ok-ended-clause-sat : goal.returns-in-Ok-ended-clause-sat
 returns-in-Ok-ended-clause-sat g c = (
   _,
-  sat_over c.in-Ok.ensures.booted.outcome.1.opened _ _ c.args.entropy c.args.host c.in-Ok.ensures.booted.own c.session-ended.new.engine.state c.new-host.result c.boot.new.host c.session-ended.new.host _ _ (Ok tt) (known c.args.plan.now) c.in-Ok.ensures.booted.outcome.1.setting c.in-Ok.ensures.booted.outcome.1.state c.new-host.ensures.host c.new-host.ensures.kept c.requires.fresh
+  sat_over c.in-Ok.ensures.booted.did.outcome.1.opened _ _ c.args.entropy c.args.host c.in-Ok.ensures.booted.did.own c.session-ended.new.engine.state c.new-host.result c.boot.new.host c.session-ended.new.host _ _ (Ok tt) (known c.args.plan.now) c.in-Ok.ensures.booted.did.outcome.1.setting c.in-Ok.ensures.booted.did.outcome.1.state c.new-host.ensures.host c.new-host.ensures.kept c.requires.fresh
       (booted_over (known c.args.plan.now) c.args.entropy _ _ c.in-Ok.machine c.in-Ok.ensures.booted)
-      (opened_first c.requires.plan.0 (known c.args.plan.now) (heard_of c.in-Ok.ensures.booted.own) c.in-Ok.ensures.booted.outcome.1.opened c.args.entropy c.requires.plan.1 c.in-Ok.ensures.booted.outcome.1.opens) c.in-Ok-ended.ensures.run,
+      (opened_first c.requires.plan.0 (known c.args.plan.now) (heard_of c.in-Ok.ensures.booted.did.own) c.in-Ok.ensures.booted.did.outcome.1.opened c.args.entropy c.requires.plan.1 c.in-Ok.ensures.booted.did.outcome.1.opens) c.in-Ok-ended.ensures.run,
 )
 
 pub returns-in-Err-ended-clause-sat : goal.returns-in-Err-ended-clause-sat
@@ -28,7 +28,7 @@ returns-in-Err-ended-clause-sat g c = inr (inr (
   c.made_status.ensures ∙ ap status_of c.in-Err-ended.is,
   c.session-ended.new.host,
   _,
-  sat_over c.in-Ok.ensures.booted.outcome.1.opened _ _ c.args.entropy c.args.host c.in-Ok.ensures.booted.own c.session-ended.new.engine.state c.new-host.result c.boot.new.host c.session-ended.new.host _ _ (Err c.in-Err-ended.field-0) (known c.args.plan.now) c.in-Ok.ensures.booted.outcome.1.setting c.in-Ok.ensures.booted.outcome.1.state c.new-host.ensures.host c.new-host.ensures.kept c.requires.fresh
+  sat_over c.in-Ok.ensures.booted.did.outcome.1.opened _ _ c.args.entropy c.args.host c.in-Ok.ensures.booted.did.own c.session-ended.new.engine.state c.new-host.result c.boot.new.host c.session-ended.new.host _ _ (Err c.in-Err-ended.field-0) (known c.args.plan.now) c.in-Ok.ensures.booted.did.outcome.1.setting c.in-Ok.ensures.booted.did.outcome.1.state c.new-host.ensures.host c.new-host.ensures.kept c.requires.fresh
       (booted_over (known c.args.plan.now) c.args.entropy _ _ c.in-Ok.machine c.in-Ok.ensures.booted)
-      (opened_first c.requires.plan.0 (known c.args.plan.now) (heard_of c.in-Ok.ensures.booted.own) c.in-Ok.ensures.booted.outcome.1.opened c.args.entropy c.requires.plan.1 c.in-Ok.ensures.booted.outcome.1.opens) c.in-Err-ended.ensures.run,
+      (opened_first c.requires.plan.0 (known c.args.plan.now) (heard_of c.in-Ok.ensures.booted.did.own) c.in-Ok.ensures.booted.did.outcome.1.opened c.args.entropy c.requires.plan.1 c.in-Ok.ensures.booted.did.outcome.1.opens) c.in-Err-ended.ensures.run,
 ))
