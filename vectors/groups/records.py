@@ -5,7 +5,7 @@ import struct
 import uuid
 
 from lib.devices import DONE, FAILED, Device, number, told
-from models import SECTOR, Table, case, composite, counted, ran, reply, request, tape
+from models import SECTOR, Table, case, composite, counted, idsig, ran, reply, request, tape
 
 ORIGIN = ("Sealed forms by Python's cryptography (AES-GCM) with keys by HKDF over hmac and hashlib, tables and composite files by models.py "
           "(docs/FORMATS.md: instance image, frames, log)")
@@ -241,8 +241,103 @@ def twice():
                ran("serve plan again entropy tape", 0, text(b"hello") + code(2, 2), "", get(A) + get(B), {"tape": tape(*later)}))
 
 
+class ApkWithImage:
+    """A disk with an APK, its idsig and an image, and the answers to the calls of its boot."""
+
+    def __init__(self, device, parts):
+        self.parts, self.image, self.idsig = parts, image(parts), idsig(device)
+        sizes = [len(device.content), -(-len(self.idsig) // SECTOR) * SECTOR, len(self.image)]
+        self.table = Table(GUID, [(name, uuid.uuid5(GUID, name), size // SECTOR) for name, size in zip(("apk", "idsig", "vm"), sizes)])
+        self.front = self.idsig.ljust(sizes[1], b"\0")
+        self.bytes = self.table.head + device.content + self.front + self.image + self.table.tail
+
+    def boot(self):
+        """The instance line's calls: the table, and the image as `Disk` has it."""
+        at, out = SECTOR, [number(self.table.sectors), told(self.table.head), told(self.table.tail), told(self.image[:SECTOR])]
+        for _, sectors, *_ in self.parts:
+            out.append(told(self.image[at:at + SECTOR]))
+            at += SECTOR * (1 + sectors)
+        return out + ([told(self.image[at:at + SECTOR])] if at < len(self.image) else [])
+
+
+def measure(device):
+    """The text that a record keeps of a measure."""
+    return f"{len(device.levels[0])} {device.salt.hex() or '-'} {device.root.hex()}".encode()
+
+
+APK = Device(counted(3 * 4096), b"\x2a")
+
+KEPT = PLAN + f"apk 0 apk idsig record {A}\n"
+
+
+def measures():
+    """APKs whose measure is in a record: put where it is empty, and got where it isn't."""
+    said = measure(APK)
+    empty, store = ApkWithImage(APK, [(A, 4), (B, 4)]), b"store 1\ndisk 0 disk.bin\nkeep disk 0 after.bin\n"
+    put_first = record(A, said, 4, nonce(0))
+    full = ApkWithImage(APK, [(A, 4, said, nonce(0)), (B, 4)])
+    size = 28 + len(said)
+    read = request(0, 4090, 12) + get(A) + get(B)
+    answers = reply(0, APK.content[4090:4102]) + text(said) + code(2, 2)
+
+    def pages(at, count):
+        first = 40 * SECTOR
+        for level, index, _ in APK.pages(at, count):
+            place = first + 4096 * index if level == 0 else first + len(APK.content) + 61 + 1
+            yield told(empty.bytes[place // SECTOR * SECTOR:-(-(place + 4096) // SECTOR) * SECTOR])
+
+    files = {"plan": KEPT.encode(), "store": store, "again": b"store 1\ndisk 0 after.bin\n", "disk.bin": empty.bytes, "entropy": ENTROPY[:12], "none": b""}
+    begun = empty.boot() + [told(empty.front), DONE] + list(pages(4090, 12)) + [heard(put_first, size)]
+    later = full.boot() + [heard(put_first, size), told(full.front)] + list(pages(4090, 12)) + [heard(put_first, size)]
+    yield case("measure in a record", "the first boot puts the measure of the APK, with the twelve bytes of entropy; the second gets it, and needs none", files,
+               ran("serve plan store entropy tape", 0, answers, "", read, {"after.bin": full.bytes, "tape": tape(*begun)}),
+               ran("serve plan again none tape", 0, answers, "", read, {"tape": tape(*later)}),
+               ran("replay plan tape none", 0, answers, "", read))
+    two = KEPT + f"apk 0 apk idsig record {A}\n"
+    yield case("two lines of one record", "the first puts its measure, the second gets it", {"plan": two.encode(), "entropy": ENTROPY[:12],
+               "tape": tape(*(empty.boot() + [told(empty.front), DONE, heard(put_first, size), told(empty.front)]))},
+               ran("replay plan tape entropy", 0, code(2, 5), "eio 0 failed 1\n", get(A)))
+
+    def told_as(name, why, records, words, plan=KEPT, entropy=ENTROPY, line=5):
+        return case(name, why, {"plan": plan.encode(), "tape": tape(*records), "entropy": entropy},
+                    ran("replay plan tape entropy", 8, b"", f"end 8 boot {line} {words}\n"))
+
+    opened = empty.boot() + [told(empty.front)]
+    yield told_as("eleven bytes of entropy", "one fewer than a put takes: nothing is written", opened, "noentropy 11", entropy=ENTROPY[:11])
+    yield told_as("write of a measure fails", "the record stays empty", opened + [FAILED], "put failed 1")
+    none = ApkWithImage(APK, [(A, 0)])
+    yield told_as("no room for a measure", "the partition has no sector: told before the entropy is looked at", none.boot() + [told(none.front)],
+                  f"put toolarge {len(said)} 0", entropy=b"")
+    yield told_as("no such record", "a UUID that the image lacks: told before the APK is opened", empty.boot(), "get norecord",
+                  PLAN + f"apk 0 apk idsig record {C}\n")
+    yield told_as("no part before the record", "a part and a UUID that aren't there: the part is told", empty.boot(), "nopart nope",
+                  PLAN + f"apk 0 nope idsig record {C}\n")
+    yield told_as("refused before it is put", "the APK is opened first: its idsig is bent, and there is no entropy", empty.boot() + [told(b"\3" + empty.front[1:])],
+                  "apk idsig version 3", entropy=b"")
+    yield told_as("get of a measure fails", "the read of the record", full.boot() + [FAILED], "get failed 1")
+    yield told_as("measure came short", "one sector in place of two", full.boot() + [told(put_first[:SECTOR])], "get short 1024 512")
+    flipped = put_first[:SECTOR + 20] + bytes([put_first[SECTOR + 20] ^ 1]) + put_first[SECTOR + 21:]
+    yield told_as("measure with another tag", "one bit of the sealed text", full.boot() + [heard(flipped, size)],
+                  f"get tag {put_first[SECTOR + size - 16:SECTOR + size].hex()}")
+    yield told_as("measure under another header", "another size than the kept one", full.boot() + [heard(record(A, said + b"x", 4, nonce(0)), size)], "get changed 1")
+    for name, words in (("no measure", b"hello"), ("line feed behind a measure", said + b"\n"), ("one block", said.replace(b"3 ", b"1 ", 1)),
+                        ("no salt said", said.replace(b" 2a ", b"  ", 1)), ("capital digits", said.upper())):
+        other = record(A, words, 4, nonce(0))
+        disk = ApkWithImage(APK, [(A, 4, words, nonce(0))])
+        yield told_as(f"text: {name}", "a text that isn't that of a measure", disk.boot() + [heard(other, 28 + len(words))], "measuretext")
+    changed_apk = Device(counted(3 * 4096, 1), b"\x2a")
+    fresh = ApkWithImage(changed_apk, [(A, 4, said, nonce(0)), (B, 4)])
+    yield told_as("another APK", "the record's measure isn't the idsig's: the root", fresh.boot() + [heard(put_first, size), told(fresh.front)],
+                  f"apk rootmismatch {APK.root.hex()} {changed_apk.root.hex()}")
+    salted = Device(counted(3 * 4096), b"\x2b")
+    fresh = ApkWithImage(salted, [(A, 4, said, nonce(0)), (B, 4)])
+    yield told_as("another salt of the APK", "the record's measure isn't the idsig's: the salt", fresh.boot() + [heard(put_first, size), told(fresh.front)],
+                  "apk saltmismatch")
+
+
 def cases():
     yield from sessions()
+    yield from measures()
     yield from bends()
     yield from boots()
     yield from twice()

@@ -81,7 +81,7 @@ booted_over plan entropy start mid m d = record {
 
 module _ (plan : Known) (entropy : List ℕ) (start finish : Told) (fault : Fault) (d : DidWriting (IsForLines plan.lines) (most_of plan.lines) start finish (BootedOutcome plan entropy (Err fault))) where
   unbooted_with : (why : BootCause) → fault.why ≡ why → (why ≡ cause.Memory → ⊥)
-      → ((fault.why ≡ cause.Memory) × (failures_of d.did.own ≡ 0) × NoneOrAll plan entropy (heard_of d.did.own)) ⊎ IsFault (means_of plan entropy) plan.lines plan.numbers fault d.writings (trace_of (heard_of d.did.own) (failures_of d.did.own) start finish)
+      → ((fault.why ≡ cause.Memory) × (failures_of d.did.own ≡ 0) × NoneOrAll plan entropy (heard_of d.did.own) d.writings) ⊎ IsFault (means_of plan entropy) plan.lines plan.numbers fault d.writings (trace_of (heard_of d.did.own) (failures_of d.did.own) start finish)
       → Unbooted plan entropy start fault
   unbooted_with why is other (inl e) = absurd (other (sym is ∙ e.0))
   unbooted_with why is other (inr f) = record { finish = finish; own = d.did.own; talked = d.did.talked; writings = d.writings; calls = d.did.calls; few = d.did.few; stops = d.did.stops; is = f; other = λ e. other (sym is ∙ e) }

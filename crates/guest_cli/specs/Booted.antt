@@ -70,16 +70,16 @@ pub record Makes (plan : Known) (own : Exchanges) (entropy : List ℕ) (writings
   pub setting : m.engine.setting ≡ setting_of plan opened
   pub state : m.engine.state ≡ first_state plan opened
 
--- no call was made, or all lines were opened
-abbrev pub NoneOrAll : Known → List ℕ → Exchanges → Type 0
-NoneOrAll plan entropy own = (own ≡ []) ⊎ ((o : Opened) × Opens plan entropy own o)
+-- no call was made, or all lines were opened, by these writes
+abbrev pub NoneOrAll : Known → List ℕ → Exchanges → List Writing → Type 0
+NoneOrAll plan entropy own writings = ((own ≡ []) × (writings ≡ [])) ⊎ ((o : Opened) × Opens plan entropy own o × (o.writings ≡ writings))
 
 -- what came of boot: where it passed, no call failed; where there was no room to begin with, or none for the names once all lines
 -- were opened, none failed either
 abbrev pub BootedOutcome : Known → List ℕ → Result Machine Fault → List Writing → Trace → Type 0
 BootedOutcome plan entropy (Ok m) writings t = (t.failed ≡ 0) × Makes plan t.own entropy writings m
 BootedOutcome plan entropy (Err fault) writings t =
-    ((fault.why ≡ cause.Memory) × (t.failed ≡ 0) × NoneOrAll plan entropy t.own) ⊎ IsFault (means_of plan entropy) plan.lines plan.numbers fault writings t
+    ((fault.why ≡ cause.Memory) × (t.failed ≡ 0) × NoneOrAll plan entropy t.own writings) ⊎ IsFault (means_of plan entropy) plan.lines plan.numbers fault writings t
 
 -- the plan was opened over a host with this entropy: what it told before and after, and these calls between, and no other, none of
 -- which failed; each reads, or is one of the writes

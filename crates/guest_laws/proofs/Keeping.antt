@@ -7,14 +7,15 @@ use Rattle.host_traits.specs.Did.{IsIn}
 use Rattle.instance_image.specs.Records.{Kept, IsLaid}
 use Rattle.instance_image.specs.Opening.{opening, IsOpened}
 use Rattle.guest_plan.specs.Plans.{Known}
-use Rattle.guest_boot.specs.Booting.{InstanceLine, InstanceBoots, instance_in, before_lines}
+use Rattle.guest_boot.specs.Booting.{AreUnrecorded, InstanceLine, InstanceBoots, instance_in, before_lines}
+use Rattle.guest_laws.proofs.Unrecorded.{none_written, reads_only}
 use Rattle.guest_boot.proofs.Instances.{stands}
-use Rattle.guest_boot.proofs.Plans.{stays as images_stay}
+use Rattle.guest_boot.proofs.Plans.{stays as others_stay}
 use Rattle.guest_rules.specs.Machine.{Setting, State, Moment, moment, Turn, nowhere, request_of}
 use Rattle.guest_rules.specs.Step.{Step, trace}
 use Rattle.guest_rules.specs.Run.{Run}
 use Rattle.guest_cli.specs.Works.{instance_of, parts_of}
-use Rattle.guest_cli.specs.Booted.{Opened, Opens, records_of, setting_of, first_state}
+use Rattle.guest_cli.specs.Booted.{Opened, Opens, records_of, setting_of, first_state, sealings_of}
 use Rattle.guest_laws.specs.Fitting.{FitsInstance}
 use Rattle.guest_laws.specs.Sessions.{RunKept, RecordsAreServed}
 use Rattle.guest_laws.proofs.Asking.{AreHeld, boot_held}

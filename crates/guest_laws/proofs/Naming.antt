@@ -21,6 +21,7 @@ use Rattle.fuse_codec.specs.Reply as reply
 use Rattle.fuse_codec.specs.Reply.{Answer}
 use Rattle.fuse_server.specs.State.{State as Fuse}
 use Rattle.fuse_server.specs.Effects.{Change, nothing, initialises, counts, forgets, forgets_all, opens, closes, destroys, change_of, Changed, Next, UnlessRefused, counted, all_forgotten}
+use Rattle.guest_boot.specs.Booting.{means_of}
 use Rattle.guest_names.specs.Standing.{NamedFile, files_in, file_count, names_at_boot}
 use Rattle.guest_names.specs.Promises.{StandsSound}
 use Rattle.guest_names.proofs.Making.{counted as files_counted}

@@ -37,7 +37,7 @@ use Rattle.guest_boot.proofs.Plans.{plan_served}
 use Rattle.guest_laws.specs.Fitting.{FitsItem, HoldsReadOnly, item_line}
 use Rattle.guest_laws.specs.Sessions.{AreUnwritten, LiesApart, StaysHeld, RunServed, SessionsAreServed, BootsAreServed}
 use Rattle.guest_laws.proofs.Asking.{AreHeld, boot_held, not_failed}
-use Rattle.guest_laws.proofs.Boots.{lines_call, fault_passes}
+use Rattle.guest_laws.proofs.Boots.{lines_call, fault_writes, fault_passes}
 use Rattle.guest_laws.proofs.Items.{served_line}
 use Rattle.guest_laws.proofs.Lines.{same_line, get_last, keeps}
 use Rattle.guest_laws.proofs.Unrecorded.{PlainLine, PlainBoots, PlainPlan, from_plain, none_written, reads_only}
@@ -230,6 +230,6 @@ boots_served files plan store entropy fault world u unrecorded fits =
     let h : Held = u.made.stock.held in
     let start : Told = before h in
     let told = f.talked.held in
-    let calls = lines_call k.lines f.own f.calls in
+    let calls = lines_call k.lines f.own (reads_only k.lines f.writings f.own (fault_writes k u.bytes fault f.writings (trace_of (heard_of f.own) (failures_of f.own) start f.finish) unrecorded f.is) f.calls) in
     let boot = boot_held true f.own h told.0 told.2 calls in
-    f.other (fault_passes k u.bytes world h fits (trace_of (heard_of f.own) (failures_of f.own) start f.finish) boot.1 (λ call said one last serves. not_failed start f.finish f.own h call said f.talked refl (inr refl) calls one last serves) fault f.is)
+    f.other (fault_passes k u.bytes world h fits (trace_of (heard_of f.own) (failures_of f.own) start f.finish) boot.1 (λ call said one last serves. not_failed start f.finish f.own h call said f.talked refl (inr refl) calls one last serves) fault f.writings unrecorded f.is)

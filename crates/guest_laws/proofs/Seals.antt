@@ -37,13 +37,14 @@ use Rattle.guest_rules.specs.Machine.{Instance, Setting, State, World, nowhere, 
 use Rattle.guest_rules.specs.RecordRow.{GetRow, no_image, got, get_cause, IsForGet, IsForPut, PutRow, no_image as no_image_put, refused, no_entropy, put, nonce_of, put_sealings, sealing_if}
 use Rattle.guest_rules.specs.Step.{Step, Row, IsFor, most_for, seals, trace}
 use Rattle.guest_rules.specs.Run.{Run, AreSealed, HeardOnlySealed}
-use Rattle.guest_cli.specs.Booted.{setting_of, first_state}
+use Rattle.guest_cli.specs.Booted.{setting_of, first_state, sealings_of}
 use Rattle.guest_laws.specs.Sessions.{WritesNone, IsGetDefined, whole, no_room}
 use Rattle.guest_laws.specs.Seals.{LiesInFile, ReadsNoSectors, HoldsKnown, HonestHostsForgeNone, GetsCauseNone}
 use Rattle.guest_laws.proofs.Asking.{boot_held}
 use Rattle.guest_laws.proofs.Boots.{lines_call}
 use Rattle.guest_laws.proofs.Gets.{get_served}
 use Rattle.guest_laws.proofs.Keeping.{first_laid}
+use Rattle.guest_laws.proofs.Unrecorded.{none_written, none_sealed, reads_only}
 use Rattle.guest_laws.proofs.Laid.{IsImageLaid, row_laid, fault_keeps}
 use Rattle.guest_laws.proofs.Puts.{did, laid_in}
 use Rattle.guest_laws.proofs.Staying.{step_keeps}

@@ -15,7 +15,8 @@ use Rattle.gpt.specs.declared.values.Table.{Table}
 use Rattle.guest_plan.specs.declared.plan.How.{How}
 use Rattle.guest_plan.specs.declared.plan.PlanLine.{PlanLine}
 use Rattle.guest_plan.specs.declared.plan.PlanLine.TheVariants as line
-use Rattle.guest_boot.specs.Booting.{AreServed, Booted, PlanBoots, before_lines, instance_in}
+use Rattle.guest_boot.specs.Booting.{AreServed, Booted, Means, means_of, before_lines, instance_in}
+use Rattle.guest_laws.proofs.Unrecorded.{PlainPlan, from_plain}
 use Rattle.guest_rules.specs.Machine.{Setting, World, Moment, Turn, ItemRead, Request, IsItem, read_of, request_of}
 use Rattle.guest_rules.specs.ItemRow.{ItemRow, no_item, too_large, served, blamed, no_memory}
 use Rattle.guest_rules.specs.Step.{Step, Row, trace}
@@ -78,10 +79,10 @@ turn_fails g world old turn new r step request =
     (row_fails g.items world (trace old turn new) r turn.sent turn.cause row.1)
 
 pub apk_reads_served : ApkReadsAreServed
-apk_reads_served plan booted o world old turn new h r content disk apk idsig how m opens lines_served step request at_k is w holds booted_true read_true =
+apk_reads_served plan entropy booted o world old turn new h r content disk apk idsig how m opens unrecorded lines_served step request at_k is w holds booted_true read_true =
     let g : Setting = setting_of plan o in
-    let made : Booted = record { tables = opens.tables; items = o.items; files = o.files; image = o.image } in
-    let a = apk_kept plan.salt plan.lines booted made world h r.item content disk apk idsig how m opens.boots lines_served at_k is w.items holds booted_true in
+    let made : Booted = record { tables = opens.tables; items = o.items; files = o.files; image = o.image; secret = plan.secret; entropy = o.left; writings = o.writings } in
+    let a = apk_kept (means_of plan entropy) plan.lines booted made world h r.item content disk apk idsig how m (from_plain (instance_in plan.lines) (means_of plan entropy) plan.lines booted made unrecorded opens.boots) lines_served at_k is w.items holds booted_true in
     let held = a.held in
     let serves = read_serves g world old turn new h r a.it disk held.first held.tree step request a.at held.layout read_true in
     ⊎_elim (λ none. inl (defined_over g world old turn new h r a.it content step request a.at a.item is w serves a.holds none)) (λ f. inr f)

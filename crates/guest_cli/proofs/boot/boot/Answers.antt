@@ -24,7 +24,7 @@ plant_lines-requires-clause-opened g c =
     rw c.deref.ensures.value (counted (means_of (known c.args.plan.now) c.args.entropy) c.args.plan.now.lines.items _ _ d.did.outcome.2)
 
 pub returns-in-Err-clause-booted : goal.returns-in-Err-clause-booted
-returns-in-Err-clause-booted g c = none_done _ _ _ _ (rw c.no_memory.ensures (inl (refl, refl, inl refl)))
+returns-in-Err-clause-booted g c = none_done _ _ _ _ (rw c.no_memory.ensures (inl (refl, refl, inl (refl, refl))))
 
 pub returns-clause-booted : goal.returns-clause-booted
 returns-clause-booted g c =
@@ -45,5 +45,5 @@ returns-in-Err-plant_lines-clause-booted g c =
     let d = c.in-Ok-open_lines.ensures.booted in
     record {
       writings = d.writings;
-      did = did_as _ _ _ _ _ _ _ _ d.did (λ call given x. x) (omega arith) (λ t h. rw c.no_memory-in-Err-plant_lines.ensures (inl (refl, h.0, inr (_, record { tables = h.1; boots = h.2 }))));
+      did = did_as _ _ _ _ _ _ _ _ d.did (λ call given x. x) (omega arith) (λ t h. rw c.no_memory-in-Err-plant_lines.ensures (inl (refl, h.0, inr (record { items = c.in-Ok-open_lines.opened.items.items; files = c.in-Ok-open_lines.opened.files.items; image = c.in-Ok-open_lines.opened.image; left = c.in-Ok-open_lines.opened.entropy; writings = d.writings }, record { tables = h.1; boots = h.2 }, refl))));
     }
