@@ -41,33 +41,14 @@ store_cause T before now last refusal.Memory w = w
 pub taped_fails : (files : Option Files) (plan tape entropy bytes : List ℕ) (status : Status) → (read : PlanRead files plan) → IsLoadedBehind (length read.text) files tape bytes → Taped bytes (Err status) → InputsFail files plan tape entropy status
 taped_fails files plan tape entropy bytes (TapeFault at) read there w = (read, record { text = bytes; there = there; breaks = w })
 taped_fails files plan tape entropy bytes Memory read there w = tt
-taped_fails files plan tape entropy bytes Done read there w = absurd w
-taped_fails files plan tape entropy bytes (BootFault fault) read there w = absurd w
-taped_fails files plan tape entropy bytes Usage read there w = absurd w
-taped_fails files plan tape entropy bytes (PlanFault line kind) read there w = absurd w
-taped_fails files plan tape entropy bytes (FileFault name) read there w = absurd w
-taped_fails files plan tape entropy bytes (StoreFault line kind) read there w = absurd w
-taped_fails files plan tape entropy bytes ReadFault read there w = absurd w
-taped_fails files plan tape entropy bytes WriteFault read there w = absurd w
-taped_fails files plan tape entropy bytes (BadFrame at) read there w = absurd w
-taped_fails files plan tape entropy bytes TooMuch read there w = absurd w
-taped_fails files plan tape entropy bytes (Unbuilt form at) read there w = absurd w
+taped_fails files plan tape entropy bytes other read there w = absurd w
 
 -- the plan was read, and the tape can't be loaded
 pub tape_fails : (files : Option Files) (plan tape entropy : List ℕ) (before : ℕ) (status : Status) → (read : PlanRead files plan) → before ≡ length read.text → LoadFault files tape before status → InputsFail files plan tape entropy status
 tape_fails files plan tape entropy before (FileFault n) read count w = inr (inl (w, read))
 tape_fails files plan tape entropy before TooMuch read count w = inr (inl (read, subst (λ (n : ℕ). Passes files tape n) count w))
 tape_fails files plan tape entropy before Memory read count w = tt
-tape_fails files plan tape entropy before Done read count w = absurd w
-tape_fails files plan tape entropy before (BootFault fault) read count w = absurd w
-tape_fails files plan tape entropy before Usage read count w = absurd w
-tape_fails files plan tape entropy before (PlanFault line kind) read count w = absurd w
-tape_fails files plan tape entropy before (TapeFault at) read count w = absurd w
-tape_fails files plan tape entropy before (StoreFault line kind) read count w = absurd w
-tape_fails files plan tape entropy before ReadFault read count w = absurd w
-tape_fails files plan tape entropy before WriteFault read count w = absurd w
-tape_fails files plan tape entropy before (BadFrame at) read count w = absurd w
-tape_fails files plan tape entropy before (Unbuilt form at) read count w = absurd w
+tape_fails files plan tape entropy before other read count w = absurd w
 
 -- the plan and the tape were read, and the entropy can't be loaded
 pub entropy_fails : (files : Option Files) (plan tape entropy : List ℕ) (before : ℕ) (status : Status) → (read : PlanRead files plan) → (taped : TapeRead files tape (length read.text)) → before ≡ length read.text + length taped.text → LoadFault files entropy before status
@@ -75,16 +56,7 @@ pub entropy_fails : (files : Option Files) (plan tape entropy : List ℕ) (befor
 entropy_fails files plan tape entropy before (FileFault n) read taped count w = inr (inr (w, read, taped))
 entropy_fails files plan tape entropy before TooMuch read taped count w = inr (inr (read, taped, subst (λ (n : ℕ). Passes files entropy n) count w))
 entropy_fails files plan tape entropy before Memory read taped count w = tt
-entropy_fails files plan tape entropy before Done read taped count w = absurd w
-entropy_fails files plan tape entropy before (BootFault fault) read taped count w = absurd w
-entropy_fails files plan tape entropy before Usage read taped count w = absurd w
-entropy_fails files plan tape entropy before (PlanFault line kind) read taped count w = absurd w
-entropy_fails files plan tape entropy before (TapeFault at) read taped count w = absurd w
-entropy_fails files plan tape entropy before (StoreFault line kind) read taped count w = absurd w
-entropy_fails files plan tape entropy before ReadFault read taped count w = absurd w
-entropy_fails files plan tape entropy before WriteFault read taped count w = absurd w
-entropy_fails files plan tape entropy before (BadFrame at) read taped count w = absurd w
-entropy_fails files plan tape entropy before (Unbuilt form at) read taped count w = absurd w
+entropy_fails files plan tape entropy before other read taped count w = absurd w
 
 -- ---- a session over the host of a store list
 
@@ -93,31 +65,12 @@ pub list_fails : (files : Option Files) (plan store entropy : List ℕ) (before 
 list_fails files plan store entropy before (FileFault n) read count w = inr (inl (w, read))
 list_fails files plan store entropy before TooMuch read count w = inr (inl (read, subst (λ (n : ℕ). Passes files store n) count w))
 list_fails files plan store entropy before Memory read count w = tt
-list_fails files plan store entropy before Done read count w = absurd w
-list_fails files plan store entropy before (BootFault fault) read count w = absurd w
-list_fails files plan store entropy before Usage read count w = absurd w
-list_fails files plan store entropy before (PlanFault line kind) read count w = absurd w
-list_fails files plan store entropy before (TapeFault at) read count w = absurd w
-list_fails files plan store entropy before (StoreFault line kind) read count w = absurd w
-list_fails files plan store entropy before ReadFault read count w = absurd w
-list_fails files plan store entropy before WriteFault read count w = absurd w
-list_fails files plan store entropy before (BadFrame at) read count w = absurd w
-list_fails files plan store entropy before (Unbuilt form at) read count w = absurd w
+list_fails files plan store entropy before other read count w = absurd w
 
 pub listed_fails : (files : Option Files) (plan store entropy text : List ℕ) (status : Status) → (read : PlanRead files plan) → IsLoadedBehind (length read.text) files store text → Listed text (Err status) → ServedFails files plan store entropy status
 listed_fails files plan store entropy text (StoreFault line kind) read there w = inl (read, record { text = text; there = there; is = w })
 listed_fails files plan store entropy text Memory read there w = tt
-listed_fails files plan store entropy text Done read there w = absurd w
-listed_fails files plan store entropy text (BootFault fault) read there w = absurd w
-listed_fails files plan store entropy text Usage read there w = absurd w
-listed_fails files plan store entropy text (PlanFault line kind) read there w = absurd w
-listed_fails files plan store entropy text (FileFault name) read there w = absurd w
-listed_fails files plan store entropy text (TapeFault at) read there w = absurd w
-listed_fails files plan store entropy text ReadFault read there w = absurd w
-listed_fails files plan store entropy text WriteFault read there w = absurd w
-listed_fails files plan store entropy text (BadFrame at) read there w = absurd w
-listed_fails files plan store entropy text TooMuch read there w = absurd w
-listed_fails files plan store entropy text (Unbuilt form at) read there w = absurd w
+listed_fails files plan store entropy text other read there w = absurd w
 
 -- both were read, and a line of the list can't be carried out
 pub lines_fail : (files : Option Files) (plan store entropy : List ℕ) (before : ℕ) (r : Refusal) → (read : PlanRead files plan) → (list : ListRead files store (length read.text)) → before ≡ loaded_with read list → StockFails files list.lines (unstocked before) r
@@ -135,13 +88,4 @@ pub last_fails : (files : Option Files) (plan store entropy : List ℕ) (status 
 last_fails files plan store entropy (FileFault n) made w = inr (inr (inr (w, made)))
 last_fails files plan store entropy TooMuch made w = inr (inr (inr (made, w)))
 last_fails files plan store entropy Memory made w = tt
-last_fails files plan store entropy Done made w = absurd w
-last_fails files plan store entropy (BootFault fault) made w = absurd w
-last_fails files plan store entropy Usage made w = absurd w
-last_fails files plan store entropy (PlanFault line kind) made w = absurd w
-last_fails files plan store entropy (TapeFault at) made w = absurd w
-last_fails files plan store entropy (StoreFault line kind) made w = absurd w
-last_fails files plan store entropy ReadFault made w = absurd w
-last_fails files plan store entropy WriteFault made w = absurd w
-last_fails files plan store entropy (BadFrame at) made w = absurd w
-last_fails files plan store entropy (Unbuilt form at) made w = absurd w
+last_fails files plan store entropy other made w = absurd w
