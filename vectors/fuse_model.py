@@ -6,7 +6,7 @@ import hashlib
 import struct
 
 from lib.devices import PAGE, Device, told
-from lib.fuse import ERRNOS, HEAD, MOST, OPERATIONS, SILENT, asked, attr, entry, get, put, replied, request
+from lib.fuse import DT_DIR, DT_REG, ERRNOS, HEAD, MOST, OPERATIONS, SILENT, asked, attr, entry, get, listed, put, replied, request
 from models import descriptor, reply, request as measured_read, tape
 
 WORDS = {it[0]: word for word, it in OPERATIONS.items()}
@@ -89,10 +89,13 @@ class Server:
         if node == 1:
             raise Refused("EISDIR")
 
-    def handle(self, node, fh):
-        self.file(node)
+    def held(self, node, fh):
         if self.handles.get(fh) != node:
             raise Refused("EBADF")
+
+    def handle(self, node, fh):
+        self.file(node)
+        self.held(node, fh)
 
     def attr(self, node):
         return (node, len(self.files[node].content), READ_ONLY) if node != 1 else (node, 0, DIRECTORY)
@@ -139,11 +142,30 @@ class Server:
         self.file(node)
         if flags % 4 != 0:
             raise Refused("EACCES")
+        return self.opened(node)
+
+    def opened(self, node):
+        """A new handle."""
         if len(self.handles) >= HANDLES:
             raise Refused("ENOSPC")
         self.given += 1
         self.handles[self.given] = node
         return put("fuse_open_out", fh=self.given)
+
+    def opendir(self, node):
+        self.directory(node)
+        return self.opened(node)
+
+    def readdir(self, node, fh, offset, size):
+        self.directory(node)
+        self.held(node, fh)
+        names = [(found, found + 1, DT_REG, name) for name, found in self.names.items()]
+        return listed([(1, 1, DT_DIR, b"."), (1, 2, DT_DIR, b".."), *names], offset, size)
+
+    def releasedir(self, node, fh):
+        self.directory(node)
+        self.held(node, fh)
+        del self.handles[fh]
 
     def read(self, node, fh, offset, size):
         self.handle(node, fh)

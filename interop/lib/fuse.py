@@ -29,6 +29,7 @@ STRUCTURES = {
     "fuse_init_in": "major 4, minor 4, max_readahead 4, flags 4",
     "fuse_init_out": "major 4, minor 4, max_readahead 4, flags 4, max_background 2, congestion_threshold 2, max_write 4, time_gran 4, "
                      "max_pages 2, map_alignment 2, - 32",
+    "fuse_dirent": "ino 8, off 8, namelen 4, type 4",
     "fuse_kstatfs": "blocks 8, bfree 8, bavail 8, files 8, ffree 8, bsize 4, namelen 4, frsize 4, - 4, - 24",
 }
 
@@ -62,6 +63,7 @@ ERRNOS = {
     "ENOENT": 2, "EIO": 5, "EBADF": 9, "ENOMEM": 12, "EACCES": 13, "EEXIST": 17, "ENOTDIR": 20, "EISDIR": 21, "EINVAL": 22, "EFBIG": 27,
     "ENOSPC": 28, "ENOSYS": 38, "ENOTEMPTY": 39, "EPROTO": 71,
 }
+DT_DIR, DT_REG = 4, 8
 MOST = 131_072
 HEAD = 40
 
@@ -156,6 +158,30 @@ def entry(node, *fields):
     return put("fuse_entry_out", nodeid=node, attr=attr(*fields))
 
 
+def dirent(node, cookie, kind, name):
+    """An entry of a listing, with zeros up to a multiple of 8."""
+    out = put("fuse_dirent", ino=node, off=cookie, namelen=len(name), type=kind) + name
+    return out.ljust(-(-len(out) // 8) * 8, b"\0")
+
+
+def listed(entries, cookie, size):
+    """The entries with a cookie above this one, up to the first that isn't whole in so many bytes."""
+    out = b""
+    for entry in entries:
+        if entry[1] > cookie:
+            more = dirent(*entry)
+            if len(out) + len(more) > size:
+                break
+            out += more
+    return out
+
+
+def root(names):
+    """The entries of the root: node, cookie, kind and name; those of the names from node 2 and cookie 3 on."""
+    dots = [(1, 1, DT_DIR, b"."), (1, 2, DT_DIR, b"..")]
+    return dots + [(n, n + 1, DT_DIR if it.endswith("/") else DT_REG, bytes.fromhex(it.rstrip("/"))) for n, it in enumerate(names, 2)]
+
+
 def answered(kind, fields):
     """The error number and the body of a reply."""
     if kind == "error":
@@ -181,7 +207,10 @@ def answered(kind, fields):
 def replied(line):
     """The bytes that are printed of a line `reply KIND UNIQUE FIELD..`."""
     _, kind, unique, *fields = line.split()
-    error, body = (0, bytes.fromhex(fields[0])) if kind == "names" else answered(kind, [int(it) for it in fields])
+    if kind == "names":
+        error, body = 0, listed(root(fields[2:]), int(fields[0]), int(fields[1]))
+    else:
+        error, body = answered(kind, [int(it) for it in fields])
     return (put("fuse_out_header", len=16 + len(body), error=struct.pack("<i", error), unique=int(unique)) + body).hex()
 
 

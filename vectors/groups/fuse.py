@@ -3,7 +3,7 @@ import struct
 
 from fuse_model import LAST, File, Session, ask, body_of, framed
 from lib.devices import DONE, FAILED, Device, number, told
-from lib.fuse import HEAD, MOST, OPERATIONS, SILENT, request
+from lib.fuse import HEAD, MOST, OPERATIONS, SILENT, dirent, request
 from models import case, counted, ran, tape
 
 ORIGIN = ("Messages and replies by interop/lib/fuse.py, which is compared with the kernel's header; what is answered by fuse_model.py, and where "
@@ -19,7 +19,8 @@ FILE, ROOT = 0o100444, 0o40755
 
 INIT = dict(major=7, minor=38, max_readahead=MOST, flags=0x20)
 
-NOT_SERVED = ("opendir", "readdir", "releasedir")
+# The entries of the root with a and b: node, cookie, DT_DIR or DT_REG, name. Each has 32 bytes.
+DOT, DOTS, IN_A, IN_B = dirent(1, 1, 4, b"."), dirent(1, 2, 4, b".."), dirent(2, 3, 8, b"a"), dirent(3, 4, 8, b"b")
 
 
 def ended(session, name, why, status=0, end="", more=b""):
@@ -158,6 +159,68 @@ ROWS = {
         ("fsync", 3, dict(fh=1), "EBADF"),
         ("fsync", 2, dict(fh=1, fsync_flags=1), ("empty",)),
     ],
+    "opendir": [
+        ("opendir", 4, {}, "ENOENT"),
+        ("opendir", 0, {}, "ENOENT"),
+        ("opendir", LAST, {}, "ENOENT"),
+        ("opendir", 2, {}, "ENOTDIR"),
+        ("opendir", 1, {}, ("opened", 3)),
+        ("opendir", 1, dict(flags=2**32 - 1), ("opened", 4)),
+        ("open", 2, {}, ("opened", 5)),
+    ],
+    "readdir": [
+        ("readdir", 4, dict(fh=3, size=MOST), "ENOENT"),
+        ("readdir", 2, dict(fh=3, size=MOST), "ENOTDIR"),
+        ("readdir", 2, dict(fh=1, size=MOST), "ENOTDIR"),
+        ("readdir", 1, dict(fh=3, size=MOST), "EBADF"),
+        ("readdir", 1, dict(fh=1, size=MOST), "EBADF"),
+        ("opendir", 1, {}, ("opened", 3)),
+        ("readdir", 2, dict(fh=3, size=MOST), "ENOTDIR"),
+        ("readdir", 1, dict(fh=0, size=MOST), "EBADF"),
+        ("readdir", 1, dict(fh=2, size=MOST), "EBADF"),
+        ("readdir", 1, dict(fh=LAST, size=MOST), "EBADF"),
+        ("readdir", 1, dict(fh=3, size=MOST + 1), "EINVAL"),
+        ("readdir", 4, dict(fh=9, size=2**32 - 1), "EINVAL"),
+        ("readdir", 1, dict(fh=3, size=MOST), DOT + DOTS + IN_A + IN_B),
+        ("readdir", 1, dict(fh=3, size=0), b""),
+        ("readdir", 1, dict(fh=3, size=31), b""),
+        ("readdir", 1, dict(fh=3, size=32), DOT),
+        ("readdir", 1, dict(fh=3, size=63), DOT),
+        ("readdir", 1, dict(fh=3, size=64), DOT + DOTS),
+        ("readdir", 1, dict(fh=3, size=95), DOT + DOTS),
+        ("readdir", 1, dict(fh=3, size=96), DOT + DOTS + IN_A),
+        ("readdir", 1, dict(fh=3, size=127), DOT + DOTS + IN_A),
+        ("readdir", 1, dict(fh=3, size=128), DOT + DOTS + IN_A + IN_B),
+        ("readdir", 1, dict(fh=3, offset=1, size=MOST), DOTS + IN_A + IN_B),
+        ("readdir", 1, dict(fh=3, offset=2, size=MOST), IN_A + IN_B),
+        ("readdir", 1, dict(fh=3, offset=2, size=32), IN_A),
+        ("readdir", 1, dict(fh=3, offset=3, size=MOST), IN_B),
+        ("readdir", 1, dict(fh=3, offset=3, size=31), b""),
+        ("readdir", 1, dict(fh=3, offset=4, size=MOST), b""),
+        ("readdir", 1, dict(fh=3, offset=LAST, size=MOST), b""),
+        ("readdir", 1, dict(fh=3, size=64, read_flags=1, lock_owner=2, flags=3), DOT + DOTS),
+        ("read", 2, dict(fh=3, size=4), "EBADF"),
+        ("read", 1, dict(fh=3, size=4), "EISDIR"),
+        ("release", 1, dict(fh=3), "EISDIR"),
+        ("release", 2, dict(fh=3), "EBADF"),
+        ("flush", 1, dict(fh=3), "EISDIR"),
+        ("readdir", 1, dict(fh=3, offset=3, size=MOST), IN_B),
+    ],
+    "releasedir": [
+        ("releasedir", 4, dict(fh=3), "ENOENT"),
+        ("releasedir", 2, dict(fh=1), "ENOTDIR"),
+        ("releasedir", 1, dict(fh=3), "EBADF"),
+        ("releasedir", 1, dict(fh=1), "EBADF"),
+        ("opendir", 1, {}, ("opened", 3)),
+        ("opendir", 1, {}, ("opened", 4)),
+        ("releasedir", 2, dict(fh=3), "ENOTDIR"),
+        ("releasedir", 1, dict(fh=3, flags=1, release_flags=2, lock_owner=4), ("empty",)),
+        ("releasedir", 1, dict(fh=3), "EBADF"),
+        ("readdir", 1, dict(fh=3, size=MOST), "EBADF"),
+        ("readdir", 1, dict(fh=4, size=32), DOT),
+        ("opendir", 1, {}, ("opened", 5)),
+        ("read", 2, dict(fh=1, size=4), bytes([0, 1, 2, 3])),
+    ],
     "release": [
         ("release", 4, dict(fh=3), "ENOENT"),
         ("release", 1, dict(fh=3), "EISDIR"),
@@ -240,7 +303,7 @@ ROWS = {
     ],
 }
 
-assert {*ROWS, *NOT_SERVED} == {*OPERATIONS}
+assert {*ROWS} == {*OPERATIONS}
 
 NAMES = (b".\0", b"..\0", b"a/b\0", b"/\0", b"a\0b\0", b"a\0\0", b"\0", b"", b"a", b"n" * 256 + b"\0")
 
@@ -273,8 +336,6 @@ def sizes():
     """Each body a byte short and a byte long, and each length in the header."""
     session = prepared()
     for word, (opcode, *_) in OPERATIONS.items():
-        if word in NOT_SERVED:
-            continue
         body = body_of(word, name=b"no reply")
         wrong = "no reply" if word in SILENT else "EINVAL"
         for other in ([body[:-1]] if body else []) + ([] if word == "init" else [body + b"\0"]):
@@ -298,7 +359,7 @@ def sizes():
 def starts():
     before = Session(A, B)
     for word in OPERATIONS:
-        if word not in (*NOT_SERVED, "init"):
+        if word != "init":
             before.ask(word, 7, "no reply" if word in SILENT else "EPROTO", **(dict(name=b"no reply") if OPERATIONS[word][3] else {}))
     for word in ("lookup", "create"):
         opcode = OPERATIONS[word][0]
@@ -362,9 +423,10 @@ def reads():
     many.ask("init", 0, **INIT)
     for k in range(4096):
         many.sent(ask("open", 2, 7), ("opened", k + 1))
-    many.rows([("open", 2, dict(flags=1), "EACCES"), ("open", 2, {}, "ENOSPC"), ("release", 2, dict(fh=77), ("empty",)), ("open", 2, {}, ("opened", 4097)),
-               ("open", 2, {}, "ENOSPC"), ("read", 2, dict(fh=77, size=1), "EBADF"), ("read", 2, dict(fh=4097, size=1), b"\0"), ("destroy", 1, {}, ("empty",)),
-               ("init", 0, INIT, None), ("open", 2, {}, ("opened", 4098)), ("read", 2, dict(fh=4097, size=1), "EBADF")])
+    many.rows([("open", 2, dict(flags=1), "EACCES"), ("open", 2, {}, "ENOSPC"), ("opendir", 2, {}, "ENOTDIR"), ("opendir", 1, {}, "ENOSPC"), ("release", 2, dict(fh=77), ("empty",)), ("opendir", 1, {}, ("opened", 4097)),
+               ("open", 2, {}, "ENOSPC"), ("readdir", 1, dict(fh=4097, size=32), DOT), ("releasedir", 1, dict(fh=4097), ("empty",)), ("open", 2, {}, ("opened", 4098)),
+               ("opendir", 1, {}, "ENOSPC"), ("read", 2, dict(fh=77, size=1), "EBADF"), ("read", 2, dict(fh=4098, size=1), b"\0"), ("destroy", 1, {}, ("empty",)),
+               ("init", 0, INIT, None), ("open", 2, {}, ("opened", 4099)), ("read", 2, dict(fh=4098, size=1), "EBADF")])
     yield ended(many, "handles", "4,096 handles and no more; a number isn't given again, after DESTROY neither")
 
 
@@ -424,22 +486,74 @@ def ends():
     for name, payload in (("longer", bytes(135_169)), ("shorter", bytes(39))):
         session = Session(A).ask("init", 0, **INIT)
         yield ended(session, f"{name} than a frame", "no frame begins so", 7, f"end 7 frame {len(session.stream)}\n", framed(0, payload))
-    session = prepared()
-    files = {"plan": session.plan, "store": b"store 1\nverity 2 a -\nverity 3 b 2a\n", "entropy": b"", "a": A.content, "b": B.content}
-    yield case("nothing is stored", "a session that ends with OPENDIR", files,
-               ran("serve plan store entropy tape", 12, session.replies, f"end 12 unbuilt frame {len(session.stream)}\n",
-                   session.stream + framed(0, ask("opendir"))))
-    item = struct.pack("<IQI", 0, 0, 4)
-    for name, message in [(f"{word} {kind}", message) for word in NOT_SERVED for kind, message in (
-            ("alone", ask(word)), ("with no body", request(OPERATIONS[word][0], b"")), ("with another length", ask(word, length=7)))]:
-        session = prepared()
-        yield ended(session, name, "what isn't served yet ends the run, whatever else is wrong with it, and the replies before it stand", 12,
-                    f"end 12 unbuilt frame {len(session.stream)}\n", framed(0, message) + framed(1, item))
-        if name.endswith("alone"):
-            files = {"plan": session.plan, "tape": session.tape, "entropy": b""}
-            yield case(f"{name}, first", "before INIT too; and cut by a byte it is no frame", files,
-                       ran("replay plan tape entropy", 12, b"", "end 12 unbuilt frame 0\n", framed(0, message)),
-                       ran("replay plan tape entropy", 7, b"", "end 7 frame 0\n", framed(0, message)[:-1]))
+
+
+def last_cookie(page):
+    """The cookie of the last entry of a page."""
+    at, last = 0, None
+    while at < len(page):
+        last, length = struct.unpack_from("<QI", page, at + 8)
+        at += 24 + -(-length // 8) * 8
+    return last
+
+
+def paged(session, entries, size):
+    """The listing of the root in pages of at most so many bytes, each behind the last entry of the one before. The pages are all
+    entries, each whole, in their order, and the last one has none."""
+    session.ask("opendir", 1, ("opened", session.server.given + 1))
+    left, page, offset = list(entries), None, 0
+    while page != b"":
+        page = b""
+        while left and len(page) + len(left[0]) <= size:
+            page += left.pop(0)
+        session.ask("readdir", 1, page, fh=session.server.given, offset=offset, size=size)
+        offset = last_cookie(page) or offset
+    assert not left
+    return session.ask("releasedir", 1, ("empty",), fh=session.server.given)
+
+
+def listings():
+    session = usual()
+    session.rows([
+        ("opendir", 1, {}, ("opened", 2)),
+        ("readdir", 1, dict(fh=2, size=MOST), DOT + DOTS + IN_A),
+        ("readdir", 1, dict(fh=2, offset=3, size=MOST), b""),
+        ("forget", 2, dict(nlookup=1), "no reply"),
+        ("readdir", 1, dict(fh=2, offset=2, size=MOST), IN_A),
+        ("read", 2, dict(fh=1, offset=99_999, size=MOST), A.content[99_999:]),
+        ("releasedir", 1, dict(fh=2), ("empty",)),
+        ("readdir", 1, dict(fh=2, size=MOST), "EBADF"),
+    ])
+    yield served(session, "usual with a listing", "the root is listed behind a READ and before one; no call is on the tape for it")
+    names = ["n" * length for length in (255, 1, 2, 7, 8, 9, 15, 16, 17, 239, 240, 241)] + ["...", "a", "z"]
+    session = Session(*(File(name, 5 + k, counted(k, k)) for k, name in enumerate(names))).ask("init", 0, **INIT)
+    entries = [DOT, DOTS, *(dirent(k, k + 1, 8, name.encode()) for k, name in enumerate(names, 2))]
+    for size in (280, 281, 311, 312, 313, 600, MOST):
+        paged(session, entries, size)
+    session.ask("opendir", 1, ("opened", 8))
+    session.ask("readdir", 1, b"", fh=8, offset=2, size=279)
+    session.ask("readdir", 1, DOT + DOTS, fh=8, size=343)
+    session.ask("readdir", 1, DOT + DOTS + entries[2], fh=8, size=344)
+    yield ended(session, "pages of names", "names of all lengths, listed in pages; the first that isn't whole ends a page, and no shorter one is put in its place")
+    session = Session(*(File(f"{k:02}", 1 + k, b"") for k in range(62))).ask("init", 0, **INIT)
+    entries = [DOT, DOTS, *(dirent(k + 2, k + 3, 8, b"%02d" % k) for k in range(62))]
+    for size in (32, 33, 63, 64, 2047, 2048, 2049):
+        paged(session, entries, size)
+    yield ended(session, "pages of 64 entries", "each has 32 bytes: sizes around one entry, two, and all")
+    session = Session().ask("init", 0, **INIT)
+    session.rows([
+        ("opendir", 1, {}, ("opened", 1)),
+        ("readdir", 1, dict(fh=1, size=MOST), DOT + DOTS),
+        ("readdir", 1, dict(fh=1, offset=1, size=32), DOTS),
+        ("readdir", 1, dict(fh=1, offset=2, size=32), b""),
+        ("destroy", 1, {}, ("empty",)),
+        ("readdir", 1, dict(fh=1, size=MOST), "EPROTO"),
+        ("init", 0, INIT, None),
+        ("readdir", 1, dict(fh=1, size=MOST), "EBADF"),
+        ("opendir", 1, {}, ("opened", 2)),
+        ("readdir", 1, dict(fh=2, size=MOST), DOT + DOTS),
+    ])
+    yield ended(session, "an empty root", "`.` and `..` alone; after DESTROY the handle is gone")
 
 
 # A session that was worked out by another program, which knows the kernel's header: opcode, node, body and reply of each message.
@@ -452,7 +566,12 @@ WORKED_OUT = [
     (15, 2, "010000000000000001" + 9 * "00" + "02" + 21 * "00", "14000000000000000300000000000000656c6c6f"),  # READ
     (15, 2, "01" + 15 * "00" + "05" + 23 * "00", "10000000fbffffff0400000000000000"),  # READ of a bent answer
     (2, 2, "0100000000000000", ""),  # FORGET
-    (38, 0, "", "10000000000000000600000000000000"),  # DESTROY
+    (27, 1, 8 * "00", "2000000000000000060000000000000002000000000000000000000000000000"),  # OPENDIR
+    (28, 1, "02000000000000000000000000000000001000000000000000000000000000000000000000000000",  # READDIR
+     "700000000000000007000000000000000100000000000000010000000000000001000000040000002e000000000000000100000000000000"
+     "020000000000000002000000040000002e2e0000000000000200000000000000030000000000000001000000080000006100000000000000"),
+    (29, 1, "020000000000000000000000000000000000000000000000", "10000000000000000800000000000000"),  # RELEASEDIR
+    (38, 0, "", "10000000000000000900000000000000"),  # DESTROY
 ]
 
 WORKED_OUT_TAPE = b"guest-tape 1\n" + bytes.fromhex(
@@ -463,7 +582,7 @@ WORKED_OUT_DIGEST = "555b589c26ee43b7a2510e6c67ced9fb3190b6da6e9e683984551f5d77a
 
 
 def worked_out():
-    """INIT of 7.38, LOOKUP, OPEN, a READ, a READ of an answer with a bit changed, FORGET and DESTROY, byte for byte."""
+    """INIT of 7.38, LOOKUP, OPEN, a READ, a READ of an answer with a bit changed, FORGET, a listing of the root and DESTROY."""
     session = Session(File("a", 7, b"hello"))
     for unique, (opcode, node, body, answer) in enumerate(WORKED_OUT):
         bends = {0: told(b"hellO")} if unique == 4 else None
@@ -491,11 +610,13 @@ def fields_of(pick, server, word, node):
     fields = {}
     if OPERATIONS[word][3]:
         fields["name"] = pick.of(b"b", b"b", b"c", b"empty", b"none", b"a/")
-    if word in ("read", "write", "flush", "fsync", "release"):
+    if word in ("read", "write", "flush", "fsync", "release", "readdir", "releasedir"):
         live = [fh for fh, of in server.handles.items() if of == node]
         fields["fh"] = pick.of(*live) if live and pick(8) else pick(6)
     if word == "read":
         fields.update(offset=pick(14_000), size=pick(5000) if pick(12) else MOST + 1)
+    if word == "readdir":
+        fields.update(offset=pick(7), size=pick(200) if pick(12) else MOST + 1)
     if word in ("open", "setattr"):
         fields["flags" if word == "open" else "valid"] = pick.of(0, 0, 0, 4, 1, 8)
     if word == "write":
@@ -510,13 +631,16 @@ def fields_of(pick, server, word, node):
 def drawn(first):
     """Messages that are drawn, most of them right, and some of their READs bent."""
     pick, session = Draw(first), Session(B, EMPTY, File("c", 9, counted(5000)))
-    words = [*("lookup", "release", "read") * 2, *("open",) * 4, *(word for word in OPERATIONS if word not in NOT_SERVED)]
+    words = [*("lookup", "release", "read", "opendir", "readdir") * 2, *("open",) * 4, *OPERATIONS]
     for _ in range(60):
         if not session.server.ready:
             session.ask("init", 0, **INIT)
         word, node = pick.of(*words), pick.of(1, 2, 2, 2, 3, 4, 4, 4, 5)
+        if word in ("opendir", "readdir", "releasedir"):
+            node = pick.of(1, 1, 1, 2, 5)
         if session.server.handles and pick(2):
-            word, node = "read", pick.of(*session.server.handles.values())
+            node = pick.of(*session.server.handles.values())
+            word = "readdir" if node == 1 else "read"
         session.number += 1
         message = ask(word, node, session.number, **fields_of(pick, session.server, word, node))
         spoiled = pick(16)
@@ -530,7 +654,7 @@ def drawn(first):
 
 
 def cases():
-    for part in (rows, sizes, starts, reads, bends, ends, worked_out):
+    for part in (rows, sizes, starts, reads, listings, bends, ends, worked_out):
         yield from part()
     for first in range(4):
         yield ended(drawn(first), f"drawn {first}", "sixty messages that are drawn, and READs of which some are bent")
