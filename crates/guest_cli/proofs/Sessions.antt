@@ -1,7 +1,6 @@
 -- A session, frame by frame.
-use Rattle.std.proofs.Common.{◌≡◌, ℕ, ◌+◌, ◌-◌, ◌^◌, ◌<◌, ◌≤◌, min, List, [], ◌∷◌, ◌++◌, length, refl, sym, ap, subst, ◌∙◌, append_assoc, arith, Bool, true, false, inr, Option, Some, None, Result, Ok, Err}
-use Rattle.std.specs.Prelude.{◌⊎◌, ◌||◌, nat_lt, OnOk, OnErr}
-use Rattle.std.proofs.lemmas.Bool.Decides.{nat_tests}
+use Rattle.std.proofs.Common.{◌≡◌, ℕ, ◌+◌, ◌-◌, ◌^◌, ◌<◌, ◌≤◌, min, List, [], ◌∷◌, ◌++◌, length, refl, sym, ap, subst, ◌∙◌, append_assoc, arith, inr, Option, Some, None, Result, Ok, Err}
+use Rattle.std.specs.Prelude.{◌⊎◌, OnOk, OnErr}
 use Rattle.std.specs.Io.KnownBytes.{Appends}
 use Rattle.std.proofs.lemmas.List.{length-append}
 use Rattle.host_traits.specs.Told.{Told, Exchanges, IsHeardSize, heard_size}
@@ -13,7 +12,7 @@ use Rattle.guest_rules.specs.Step.{Stepped}
 use Rattle.session_frames.proofs.Heads.{held_at}
 use Rattle.session_frames.proofs.Sessions.{went_not, went_on, over_not, over_on}
 use Rattle.session_frames.proofs.Streams.{length_of_bytes}
-use Rattle.guest_rules.specs.Machine.{Setting, State, Turn, is_unbuilt}
+use Rattle.guest_rules.specs.Machine.{Setting, State, Turn}
 use Rattle.guest_rules.specs.Run.{IsEarly, Runs, Ran, frames_of, log_line, frame_size}
 use Rattle.guest_rules.proofs.Runs.{turns_size, turn_of, ran_none, ran_one, ran_both, frames_both, runs_both, runs_one, written_both, logged_both}
 use Rattle.guest_cli.specs.Turns.{Taken, TurnOutcome, framed}
