@@ -1,5 +1,5 @@
 -- A session over a tape is a run in each world.
-use Rattle.std.proofs.Common.{◌≡◌, ◌+◌, ◌-◌, ◌^◌, min, ℕ, List, [], ◌++◌, refl, ap, sym, subst, ◌∙◌, Option, Some, Result, Ok, Err, ◌⊎◌, inl, inr}
+use Rattle.std.proofs.Common.{◌≡◌, ℕ, List, [], ◌++◌, refl, sym, subst, ◌∙◌, Option, Result, Ok, Err, ◌⊎◌, inl, inr}
 use Rattle.host_traits.specs.declared.calls.TapeItem.{TapeItem}
 use Rattle.host_traits.specs.Did.{Each, trace_of}
 use Rattle.host_traits.specs.Folders.{Files}

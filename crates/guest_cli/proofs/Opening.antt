@@ -1,5 +1,5 @@
 -- The files of the machine that stands after boot were opened by what boot heard.
-use Rattle.std.proofs.Common.{◌≡◌, ℕ, List, Some, ap, sym, subst}
+use Rattle.std.proofs.Common.{◌≡◌, ℕ, List, ap, sym, subst}
 use Rattle.mg_base.specs.declared.values.Digest.{Digest}
 use Rattle.host_traits.specs.Told.{Exchanges}
 use Rattle.ro_file.specs.Files.{MeasuredFile}

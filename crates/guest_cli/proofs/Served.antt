@@ -29,7 +29,7 @@ use Rattle.instance_image.specs.Sealings.{Sealing}
 use Rattle.guest_cli.specs.Booted.{Opened, BootedOutcome, BootsOver, Unbooted, setting_of, first_state, sealings_of, boot_status}
 use Rattle.guest_cli.specs.Outside.{Quiet, status_of, refused}
 use Rattle.guest_cli.specs.Serve.{before, Recorded, SatOver, Kept, Unkept, ServesList}
-use Rattle.guest_cli.specs.Loads.{IsStocked, IsServed, IsUnserved, SatOutcome, StoreOutcome, StoresCause}
+use Rattle.guest_cli.specs.Loads.{IsStocked, IsServed, SatOutcome, StoreOutcome, StoresCause}
 use Rattle.guest_cli.proofs.Headline.{session_so, boot_fails}
 
 -- ---- the session

@@ -4,10 +4,9 @@ use Rattle.std.specs.Prelude.{slice_get, IfSome, ◌⊎◌}
 use Rattle.std.proofs.lemmas.Option.{slice_get_within}
 use Rattle.mg_base.specs.declared.errno.Errno.{Errno}
 use Rattle.mg_base.specs.declared.errno.Errno.TheVariants.{Enomem}
-use Rattle.host_traits.specs.Told.{Told, Made, failures_of, heard_of}
+use Rattle.host_traits.specs.Told.{Told, failures_of, heard_of}
 use Rattle.host_traits.specs.Did.{Did, Trace, reads, trace_of}
 use Rattle.host_traits.proofs.Doing.{did_none}
-use Rattle.session_frames.specs.Frames.{Framed}
 use Rattle.session_frames.specs.Replies.{Sent, sent_if, sent_code, message_sent}
 use Rattle.session_frames.proofs.Replies.{message_is}
 use Rattle.verity_path.specs.declared.device.Cause.{Cause}
@@ -22,7 +21,7 @@ use Rattle.fuse_codec.specs.declared.reply.FuseReply.{FuseReply}
 use Rattle.fuse_codec.specs.Message.{Message, Bad}
 use Rattle.fuse_codec.specs.Reading.{decoded}
 use Rattle.fuse_codec.specs.Reply.{Answer, bytes_out, refused}
-use Rattle.fuse_codec.specs.Sent.{unique_of, answer_of}
+use Rattle.fuse_codec.specs.Sent.{unique_of}
 use Rattle.fuse_server.specs.State.{State as Fuse}
 use Rattle.fuse_server.specs.Aims.{Aim, says, makes, reads as reads_file, aim_of, number_of}
 use Rattle.fuse_server.specs.Effects.{Next}

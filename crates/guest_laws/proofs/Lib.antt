@@ -18,6 +18,7 @@ pub mod Puts
 pub mod Kept
 pub mod Keeping
 pub mod Seals
+pub mod Keyed
 pub mod Sat
 mod Example
 mod ExampleImage

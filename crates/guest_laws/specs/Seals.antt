@@ -1,5 +1,5 @@
 -- Which sealed forms a session over a host in memory hears, where each record that the host holds is a known one.
-use Rattle.std.specs.Prelude.{◌≡◌, ◌++◌, ℕ, List, [], slice_get, Option, Some, None, Result}
+use Rattle.std.specs.Prelude.{◌≡◌, ◌++◌, ℕ, List, [], length, slice_get, Option, Some, None, Result}
 use Rattle.std.specs.List.{AllByRecursion}
 use Rattle.host_traits.specs.Folders.{Files}
 use Rattle.host_traits.specs.Held.{Held}
@@ -10,6 +10,9 @@ use Rattle.verity_path.specs.declared.walk.Layout.TheVariants.{File, Parts}
 use Rattle.instance_image.specs.declared.values.Part.{Part}
 use Rattle.instance_image.specs.Sealings.{Sealing}
 use Rattle.instance_image.specs.Staying.{HoldsRecords}
+use Rattle.guest_plan.specs.Plans.{Known}
+use Rattle.guest_plan.specs.Spelling.{IsPlan}
+use Rattle.guest_plan.specs.declared.plan.PlanLine.TheVariants as line
 use Rattle.guest_boot.specs.Booting.{AreUnrecorded}
 use Rattle.guest_rules.specs.Machine.{Instance, Setting, World, moment, Turn, Request, message_of, read_of, get_of, put_of, request_of, image_with}
 use Rattle.guest_rules.specs.Run.{AreSealed, calls_of}
@@ -59,3 +62,8 @@ GetsCauseNone = (files : Option Files) (plan store entropy : List ℕ) (old new 
     → FitsInstance s.made.planned.plan s.made.stock.held
     → HoldsKnown (setting_of s.made.planned.plan s.opened).image (first_state s.made.planned.plan s.opened).parts s.made.stock.held earlier
     → AllByRecursion (λ t. (uuid : List ℕ) → request_of t.frame ≡ get_of uuid → t.cause ≡ None) turns
+
+-- A plan in the grammar with an instance line has a secret, of 32 bytes: so an image that opened always has its records.
+abbrev pub InstancesHaveSecrets : Type 0
+InstancesHaveSecrets = (text : List ℕ) (plan : Known) (at disk : ℕ) (part : List ℕ) → IsPlan text plan
+    → slice_get plan.lines at ≡ Some (line.Instance disk part) → (secret : List ℕ) × (plan.secret ≡ Some secret) × (length secret ≡ 32)

@@ -3,7 +3,7 @@ ghost use Rattle.guest_laws.specs.Fitting.{ApkReadsAreServed};
 ghost use Rattle.guest_laws.specs.Passing.{BootsPass};
 ghost use Rattle.guest_laws.specs.Naming.{NamesStay};
 ghost use Rattle.guest_laws.specs.Lies.{ItemMismatchesLie, ReadMismatchesLie};
-ghost use Rattle.guest_laws.specs.Seals.{HonestHostsForgeNone, GetsCauseNone};
+ghost use Rattle.guest_laws.specs.Seals.{HonestHostsForgeNone, GetsCauseNone, InstancesHaveSecrets};
 ghost use Rattle.guest_laws.specs.Sessions.{BootsAreServed, SessionsAreServed, RecordsAreServed, HonestHostsCauseNone};
 
 /// Over a host that holds what each line of the plan needs, and is honest or of whose calls none failed, boot opens all lines, or
@@ -69,4 +69,10 @@ pub fn mismatches_lie()
 /// boot opened. Its contract is the law; it does nothing.
 pub fn names_stay()
     ensures { NamesStay }
+{}
+
+/// A plan in the grammar with an instance line has a secret of 32 bytes, so no image that opened is without its records. Its contract
+/// is the law; it does nothing.
+pub fn instances_have_secrets()
+    ensures { InstancesHaveSecrets }
 {}

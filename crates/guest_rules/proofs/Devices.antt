@@ -1,5 +1,5 @@
 -- A content that is held: the answer to the call for a page is as long as asked, and holds the content's page.
-use Rattle.std.proofs.Common.{◌≡◌, ℕ, [], ◌-◌, ◌*◌, ◌+◌, ◌/◌, ◌%◌, ◌<◌, ◌≤◌, min, List, length, sym, ◌∙◌, arith, Some, true, false}
+use Rattle.std.proofs.Common.{◌≡◌, ℕ, [], ◌-◌, ◌*◌, ◌+◌, ◌/◌, ◌%◌, ◌<◌, ◌≤◌, min, List, length, sym, ◌∙◌, Some, true, false}
 use Rattle.std.specs.Prelude.{◌==◌, if◌then◌else◌}
 use Rattle.host_traits.specs.declared.calls.Call.TheVariants.{BlockRead, FileRead, TreeRead}
 use Rattle.host_traits.specs.declared.calls.Said.{Said}

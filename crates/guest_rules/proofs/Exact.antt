@@ -1,5 +1,5 @@
 -- Of some reads over an honest host, one that failed could not be served by what is held.
-use Rattle.std.proofs.Common.{true, ◌≡◌, ◌<◌, ◌+◌, ℕ, List, [], ◌∷◌, Option, Some, None, refl, subst, arith}
+use Rattle.std.proofs.Common.{true, ◌≡◌, ◌<◌, ◌+◌, List, [], ◌∷◌, Option, Some, None, refl, subst, arith}
 use Rattle.host_traits.specs.declared.calls.Call.{Call}
 use Rattle.host_traits.specs.declared.calls.Said.{Said}
 use Rattle.host_traits.specs.Held.{Held, serve}

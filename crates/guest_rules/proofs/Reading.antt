@@ -5,7 +5,7 @@ use Rattle.host_traits.specs.declared.calls.Call.{Call}
 use Rattle.host_traits.specs.declared.calls.Said.{Said}
 use Rattle.host_traits.specs.declared.calls.Said.TheVariants.{Bytes}
 use Rattle.host_traits.specs.Held.{Held, serve}
-use Rattle.host_traits.specs.Told.{Told, Exchanges, Made, Talked, HeldAfter, heard_of, failures_of, kind_of, kind_bytes}
+use Rattle.host_traits.specs.Told.{Told, Made, Talked, HeldAfter, heard_of, failures_of, kind_of, kind_bytes}
 use Rattle.host_traits.specs.Did.{IsIn, Each, reads, Trace, IsShort}
 use Rattle.host_traits.proofs.Doing.{each_so}
 use Rattle.sha_tree.specs.Tree.{ancestor}
@@ -19,7 +19,7 @@ use Rattle.verity_path.specs.Holding.{HoldsAt}
 use Rattle.verity_path.specs.Pieces.{IsHashed}
 use Rattle.verity_path.specs.Walk.{IsMismatch}
 use Rattle.verity_path.proofs.Order.{last_in}
-use Rattle.verity_path.specs.Range.{IsForRead, IsReadBlame, end_of}
+use Rattle.verity_path.specs.Range.{IsForRead, IsReadBlame}
 use Rattle.verity_path.specs.declared.states.Mismatch.{Mismatch}
 use Rattle.verity_path.specs.declared.walk.Layout.{Layout}
 use Rattle.verity_path.specs.declared.device.Cause.{Cause}

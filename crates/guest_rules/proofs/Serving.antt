@@ -1,38 +1,36 @@
 -- Reads over a faithful host that holds what they are of: each has its defined reply, and over an honest host no call of it fails.
-use Rattle.std.proofs.Common.{◌≡◌, ℕ, ◌+◌, ◌*◌, ◌/◌, ◌<◌, ◌≤◌, List, [], length, take, drop, ap, sym, ◌∙◌, subst, arith, Option, Some, None, Result, Ok, Err, inl, inr}
+use Rattle.std.proofs.Common.{◌≡◌, ℕ, List, length, take, drop, ap, sym, ◌∙◌, subst, arith, Option, Some, None, Result, Ok}
 use Rattle.std.specs.Prelude.{slice_get}
 use Rattle.std.proofs.lemmas.Option.{slice_get_within}
 use Rattle.mg_base.specs.declared.errno.Errno.{Errno}
-use Rattle.mg_base.specs.declared.errno.Errno.TheVariants.{Eio, Enomem}
 use Rattle.host_traits.specs.declared.calls.Call.{Call}
 use Rattle.host_traits.specs.declared.calls.Said.{Said}
 use Rattle.host_traits.specs.Held.{Held}
-use Rattle.host_traits.specs.Told.{Told, Exchanges, Made, heard_of, failures_of}
+use Rattle.host_traits.specs.Told.{Exchanges, heard_of, failures_of}
 use Rattle.host_traits.specs.Did.{IsIn, Each, reads as reading, Trace}
 use Rattle.host_traits.proofs.Doing.{each_so, each_heard}
 use Rattle.session_frames.specs.Replies.{Sent, message_sent}
 use Rattle.sha_tree.specs.Tree.{block_count}
-use Rattle.sha_tree.specs.Measured.{IsMeasured, HasTree}
+use Rattle.sha_tree.specs.Measured.{HasTree}
 use Rattle.sha_tree.specs.Path.{NoClash}
 use Rattle.sha_tree.proofs.Sound.{measured_tree}
 use Rattle.verity_path.specs.Pieces.{IsHashed}
-use Rattle.verity_path.specs.Range.{IsForRead, IsSlice, IsCut, IsReadBlame, end_of}
+use Rattle.verity_path.specs.Range.{IsSlice, IsReadBlame}
 use Rattle.verity_path.proofs.Ranges.{cut_content}
 use Rattle.verity_path.specs.declared.device.Cause.{Cause}
 use Rattle.verity_path.specs.declared.device.Device.{Device}
 use Rattle.ro_file.specs.Files.{MeasuredFile, layout_of}
-use Rattle.ro_file.specs.Contents.{IsContentOf}
 use Rattle.fuse_codec.specs.Message.{Message, Bad}
-use Rattle.fuse_codec.specs.Reply.{Answer, refused, bytes_out}
-use Rattle.fuse_server.specs.Aims.{Aim, says, makes, reads, aim_of, number_of}
+use Rattle.fuse_codec.specs.Reply.{Answer}
+use Rattle.fuse_server.specs.Aims.{Aim, reads, aim_of, number_of}
 use Rattle.fuse_server.specs.Rows.{FuseRow, ReadRow, read_bytes, read_blamed, read_no_room, IsForFuse, IsFileRead}
 use Rattle.instance_image.specs.Sealings.{Sealing}
-use Rattle.guest_rules.specs.Machine.{Setting, World, Salted, State, Moment, Turn, ItemRead, Request, message_of, read_of, request_of, IsItem, size_of}
+use Rattle.guest_rules.specs.Machine.{Setting, World, State, Moment, Turn, ItemRead, Request, message_of, read_of, request_of, IsItem, size_of}
 use Rattle.guest_rules.specs.ItemRow.{IsForItem, ItemRow, no_item, too_large, served, blamed, no_memory}
 use Rattle.guest_rules.specs.MessageRow.{MessageRow}
 use Rattle.guest_rules.specs.Step.{Step, IsFor, Row, trace}
-use Rattle.guest_rules.specs.Run.{IsWorld, IsFile, AreOpened}
-use Rattle.guest_rules.specs.Faithful.{HoldsDevice, HoldsContent, IsDefined, over_limit, whole, no_room, IsReadDefined, slice, no_memory as short_of_memory, IsCalm, ReadsAreServed, FileReadsAreServed}
+use Rattle.guest_rules.specs.Run.{IsWorld}
+use Rattle.guest_rules.specs.Faithful.{HoldsDevice, IsDefined, over_limit, whole, no_room, IsReadDefined, slice, no_memory as short_of_memory, ReadsAreServed, FileReadsAreServed}
 use Rattle.guest_rules.proofs.Standing.{Known, item_apart, file_apart, readable, world_last, known_last, known_by}
 use Rattle.guest_rules.proofs.Reading.{IsInside, not_blamed, after, stays, calm_by}
 use Rattle.guest_rules.proofs.Holding.{AreServed}

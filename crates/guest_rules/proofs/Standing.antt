@@ -1,5 +1,5 @@
 -- A run in the world without contents is one in each world that meets the premises.
-use Rattle.std.proofs.Common.{◌≡◌, ℕ, ◌≤◌, ◌^◌, List, [], ◌∷◌, ◌++◌, take, drop, refl, ap, sym, subst, ◌∙◌, inl, inr, append_assoc, append-nil, Option, Some, None, Result, Ok, Err, arith}
+use Rattle.std.proofs.Common.{◌≡◌, ℕ, ◌≤◌, List, [], ◌∷◌, ◌++◌, take, drop, refl, ap, sym, subst, ◌∙◌, inl, inr, append_assoc, append-nil, Option, Some, None, Result, Ok, Err, arith}
 use Rattle.std.specs.Prelude.{slice_get}
 use Rattle.mg_base.specs.declared.errno.Errno.{Errno}
 use Rattle.host_traits.specs.Told.{Exchanges, heard_of}
@@ -17,14 +17,12 @@ use Rattle.verity_path.proofs.Pieces.{piece_left, piece_right}
 use Rattle.verity_path.proofs.Ranges.{cut_content}
 use Rattle.verity_path.specs.declared.device.Cause.{Cause}
 use Rattle.verity_path.specs.declared.device.Device.{Device}
-use Rattle.ro_file.specs.Files.{MeasuredFile, file_of}
+use Rattle.ro_file.specs.Files.{MeasuredFile}
 use Rattle.ro_file.specs.Opening.{WasOpened}
-use Rattle.ro_file.specs.Contents.{IsContentOf, IsHeardDescriptor, IsFileHashed as IsHashedOfFile, IsFileContent}
+use Rattle.ro_file.specs.Contents.{IsContentOf, IsHeardDescriptor, IsFileHashed as IsHashedOfFile}
 use Rattle.ro_file.proofs.Standing.{are_measured, opened_left}
-use Rattle.fuse_codec.specs.Message.{Message, Bad}
 use Rattle.fuse_codec.specs.Reply.{Answer, refused, bytes_out}
 use Rattle.fuse_server.specs.Aims.{Aim, says, makes, reads, aim_of}
-use Rattle.fuse_server.specs.Effects.{Next}
 use Rattle.fuse_server.specs.Rows.{FuseRow, ReadRow, read_bytes, read_blamed, read_no_room}
 use Rattle.fuse_server.proofs.Keeping.{files_stay, aim_file}
 use Rattle.fuse_server.specs.State.{State as Fuse, file_at}
@@ -35,10 +33,10 @@ use Rattle.instance_image.specs.Access.{GetOutcome}
 use Rattle.instance_image.proofs.Promises.{was_sealed}
 use Rattle.guest_rules.specs.Machine.{Instance, Setting, State, World, Salted, nowhere, Moment, Turn, ItemRead, Request, message_of, read_of, get_of, put_of, request_of, size_of, image_with}
 use Rattle.guest_rules.specs.ItemRow.{ItemRow, no_item, too_large, served, blamed, no_memory}
-use Rattle.guest_rules.specs.MessageRow.{MessageRow, IsSliceOf, IsOfFile}
+use Rattle.guest_rules.specs.MessageRow.{IsSliceOf, IsOfFile}
 use Rattle.guest_rules.specs.RecordRow.{GetRow, PutRow, no_image, got, refused as put_refused, no_entropy, put, IsKnownText}
 use Rattle.guest_rules.specs.Step.{Step, Row}
-use Rattle.guest_rules.specs.Run.{Run, IsItemHashed, IsFileHashed, IsRunHashed, IsFile, IsWorld, AreOpened, HeardOnlySealed, AreSealed, RunsStand}
+use Rattle.guest_rules.specs.Run.{Run, IsRunHashed, IsFile, IsWorld, AreOpened, HeardOnlySealed, AreSealed, RunsStand}
 
 -- ---- what is known of contents, where this was heard
 

@@ -1,5 +1,5 @@
 -- The row of a message of FUSE: its reply, its cause, and the state after it.
-use Rattle.std.specs.Prelude.{◌≡◌, ℕ, List, take, drop, Option, Some, None, Result, Ok, Err}
+use Rattle.std.specs.Prelude.{◌≡◌, ℕ, take, drop, Option, Some, None, Result, Ok, Err}
 use Rattle.mg_base.specs.declared.errno.Errno.{Errno}
 use Rattle.host_traits.specs.Did.{Trace}
 use Rattle.session_frames.specs.Replies.{Sent, message_sent}

@@ -1,4 +1,4 @@
-use Rattle.std.proofs.Common.{◌≡◌, ◌∙◌, ◌-◌, ℕ, List, Some, length, take, drop, refl, sym, ap, subst}
+use Rattle.std.proofs.Common.{◌∙◌, ◌-◌, ℕ, List, Some, length, take, drop, refl, sym, ap, subst}
 use Rattle.host_traits.specs.Did.{DidBy}
 use Rattle.instance_image.specs.Records.{Kept}
 use Rattle.instance_image.specs.Access.{IsPutting, PutOutcome}
