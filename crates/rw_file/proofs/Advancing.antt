@@ -11,6 +11,7 @@ use Rattle.host_traits.specs.declared.calls.Call.TheVariants.{FileWrite}
 use Rattle.host_traits.specs.Held.{over}
 use Rattle.host_traits.specs.Told.{Told, Exchanges}
 use Rattle.host_traits.specs.Did.{Trace, trace_of}
+use Rattle.leaf_tree.specs.Outcomes.{Standing}
 use Rattle.leaf_tree.specs.Worked.{Worked}
 use Rattle.leaf_tree.proofs.Working.{worked_more, worked_hands, worked_none, worked_so, worked_then}
 use Rattle.sha_tree.specs.Tree.{block_count, top}
@@ -18,7 +19,7 @@ use Rattle.sha_tree.specs.Path.{NoClash}
 use Rattle.verity_path.specs.Range.{touched}
 use Rattle.verity_path.specs.declared.walk.WalkFault.{WalkFault}
 use Rattle.verity_path.proofs.Pieces.{piece_left, piece_right}
-use Rattle.rw_file.specs.Contents.{IsContent, IsFileHashed, IsAtHost, Only, version, next_border, IsBorder, IsVersion}
+use Rattle.rw_file.specs.Contents.{Meaning, meaning, IsFileHashed, IsAtHost, Only, version, next_border, IsBorder, IsVersion}
 use Rattle.rw_file.specs.Calls.{block_read, IsForFileWrite, most_write, Hands}
 use Rattle.rw_file.specs.Blame.{Each}
 use Rattle.rw_file.specs.Rows.{IsNow, IsTreeTo, size_with}
@@ -127,8 +128,8 @@ module _ (is_local : Type 0) (file size at len n m now : ℕ) (some : n < len) (
   each_low : top (block_count (max now (at + n + (m - n)))) + 1 ≤ top (block_count (max size (at + len))) + 1
   each_low = let b = now_between in let low = top-mono (block_count (max now (at + n + (m - n)))) (block_count (max size (at + len))) (omega (arith, b, m_is, m_more)) in omega (arith, low)
 
-  module _ (bytes : List ℕ) (len_is : len ≡ length bytes) (first stands : List Digest → Type 0) (x y z : Told)
-      (d : Worked (Hands at bytes) (touched at (at + n)) (IsForFileWrite is_local file size at len) (touched at (at + n) * (top (block_count (max size (at + len))) + 1)) x y (IsPlacedTo file at bytes n (IsContent size first) (IsContent now stands) x.held y.held)) where
+  module _ (bytes : List ℕ) (len_is : len ≡ length bytes) (first stands : Standing) (x y z : Told)
+      (d : Worked (Hands at bytes) (touched at (at + n)) (IsForFileWrite is_local file size at len) (touched at (at + n) * (top (block_count (max size (at + len))) + 1)) x y (IsPlacedTo file at bytes n (meaning size first) (meaning now stands) x.held y.held)) where
     -- the version that is here is one of those
     here : (k : ℕ) → n ≤ k → (c v : List ℕ) → Only (version c at bytes n) v → IsVersion c at bytes k v
     here k le c v is = record { n = n; most = le; border = ⊎_elim (λ e. inl e) (λ h. inr (inr h)) border; is = is }
@@ -137,9 +138,9 @@ module _ (is_local : Type 0) (file size at len n m now : ℕ) (some : n < len) (
     clear a b k le c apart = apart_fewer (IsFileHashed (Only (version c at bytes n)) b) (IsFileHashed (IsVersion c at bytes k) (a ++ b))
         (file_hashed (Only (version c at bytes n)) (IsVersion c at bytes k) b (a ++ b) (here k le c) (piece_right a b)) apart
 
-    early : (a b : Exchanges) (k : ℕ) → n ≤ k → IsPlacedTo file at bytes n (IsContent size first) (IsContent now stands) x.held y.held (trace_of a 0 x y) →
-        Each (IsContent size first) (λ c. IsVersion c at bytes k) (a ++ b) (λ c. IsNow (IsContent now stands) file x.held y.held c (version c at bytes n))
-    early a b k le p = each_more (IsContent size first) (λ c. IsVersion c at bytes n) (λ c. IsVersion c at bytes k) a (a ++ b) _
+    early : (a b : Exchanges) (k : ℕ) → n ≤ k → IsPlacedTo file at bytes n (meaning size first) (meaning now stands) x.held y.held (trace_of a 0 x y) →
+        Each (meaning size first) (λ c. IsVersion c at bytes k) (a ++ b) (λ c. IsNow (meaning size first) (meaning now stands) file x.held y.held c (version c at bytes n))
+    early a b k le p = each_more (meaning size first) (λ c. IsVersion c at bytes n) (λ c. IsVersion c at bytes k) a (a ++ b) _
         (λ c v i. record { n = i.n; most = omega (arith, i.most, le); border = i.border; is = i.is }) (piece_left a b) p.1
 
     part_is : (part : List ℕ) → part ≡ slice_range bytes n m → (c : List ℕ) → over (version c at bytes n) (at + n) part ≡ version c at bytes m
@@ -150,9 +151,9 @@ module _ (is_local : Type 0) (file size at len n m now : ℕ) (some : n < len) (
     inner part is long most P e = worked_hands (Hands (at + n) part) (Hands at bytes) 1 (IsForFileWrite is_local file now (at + n) (m - n)) most y z P
         (λ call given c p. part_hands bytes part n m at is long (omega (arith, m_is, len_is)) (omega (arith, m_more)) call given p) e
 
-    pub step_on : (part : List ℕ) (stands2 : List Digest → Type 0) (u : Unit {0}) → part ≡ slice_range bytes n m → length part ≡ m - n →
+    pub step_on : (part : List ℕ) (stands2 : Standing) (u : Unit {0}) → part ≡ slice_range bytes n m → length part ≡ m - n →
         Worked (Hands (at + n) part) 1 (IsForFileWrite is_local file now (at + n) (length part)) (top (block_count (max now (at + n + length part))) + 1) y z (BlockOutcome is_local file now (at + n) part stands stands2 y.held z.held (Ok u)) →
-        Worked (Hands at bytes) (touched at (at + m)) (IsForFileWrite is_local file size at len) (touched at (at + m) * (top (block_count (max size (at + len))) + 1)) x z (IsPlacedTo file at bytes m (IsContent size first) (IsContent (max now (at + n + length part)) stands2) x.held z.held)
+        Worked (Hands at bytes) (touched at (at + m)) (IsForFileWrite is_local file size at len) (touched at (at + m) * (top (block_count (max size (at + len))) + 1)) x z (IsPlacedTo file at bytes m (meaning size first) (meaning (max now (at + n + length part)) stands2) x.held z.held)
     step_on part stands2 u is long e =
         let e2 : Worked (Hands (at + n) part) 1 (IsForFileWrite is_local file now (at + n) (m - n)) (top (block_count (max now (at + n + (m - n)))) + 1) y z (BlockOutcome is_local file now (at + n) part stands stands2 y.held z.held (Ok u)) =
         subst (λ (k : ℕ). Worked (Hands (at + n) part) 1 (IsForFileWrite is_local file now (at + n) k) (top (block_count (max now (at + n + k))) + 1) y z (BlockOutcome is_local file now (at + n) part stands stands2 y.held z.held (Ok u))) long e in
@@ -162,8 +163,8 @@ module _ (is_local : Type 0) (file size at len n m now : ℕ) (some : n < len) (
         rw bound (worked_more _ (touched at (at + n) + 1) (touched at (at + m)) _ _ x z _ (omega (arith, next)) (worked_then _ _ _ _ _ _ x y z _ _ _ d (worked_so _ _ _ _ _ _ y z _ _ (inner part is long _ _ e2) calls_for each_low (λ t q. q)) (λ t p. p.0) (λ a b failed le p q. (q.0, λ c ok apart.
         let was = early a b m (omega (arith, m_more)) p c ok apart in
         let now2 = q.1 (version c at bytes n) was.now (clear a b m (omega (arith, m_more)) c apart) in
-        subst (λ (v : List ℕ). IsNow (IsContent (max now (at + n + length part)) stands2) file x.held z.held c v) (part_is part is c)
-        (now_on (IsContent now stands) (IsContent (max now (at + n + length part)) stands2) file x.held y.held z.held c (version c at bytes n) (over (version c at bytes n) (at + n) part) was now2)))))
+        subst (λ (v : List ℕ). IsNow (meaning size first) (meaning (max now (at + n + length part)) stands2) file x.held z.held c v) (part_is part is c)
+        (now_on (meaning size first) (meaning now stands) (meaning (max now (at + n + length part)) stands2) file x.held y.held z.held c (version c at bytes n) (over (version c at bytes n) (at + n) part) was now2)))))
 
     touched_low : touched at (at + m) ≤ touched at (at + len)
     touched_low = grind (arith, m_is, some, m_more)
@@ -174,9 +175,9 @@ module _ (is_local : Type 0) (file size at len n m now : ℕ) (some : n < len) (
         let low = mul-le-mul_right (top (block_count (max size (at + len))) + 1) next in
         omega (arith, low, suc-mul (touched at (at + n)) (top (block_count (max size (at + len))) + 1), each_low)
 
-    pub step_bad : (part : List ℕ) (stands2 : List Digest → Type 0) (w : WalkFault) → part ≡ slice_range bytes n m → length part ≡ m - n →
+    pub step_bad : (part : List ℕ) (stands2 : Standing) (w : WalkFault) → part ≡ slice_range bytes n m → length part ≡ m - n →
         Worked (Hands (at + n) part) 1 (IsForFileWrite is_local file now (at + n) (length part)) (top (block_count (max now (at + n + length part))) + 1) y z (BlockOutcome is_local file now (at + n) part stands stands2 y.held z.held (Err w)) →
-        Worked (Hands at bytes) (touched at (at + length bytes)) (IsForFileWrite is_local file size at (length bytes)) (most_write size at (length bytes)) x z (ProgressOutcome is_local file size at bytes (IsContent size first) (IsContent now stands2) x.held z.held n (Some w))
+        Worked (Hands at bytes) (touched at (at + length bytes)) (IsForFileWrite is_local file size at (length bytes)) (most_write size at (length bytes)) x z (ProgressOutcome is_local file size at bytes (meaning size first) (meaning now stands2) x.held z.held n (Some w))
     step_bad part stands2 w is long e =
         let e2 : Worked (Hands (at + n) part) 1 (IsForFileWrite is_local file now (at + n) (m - n)) (top (block_count (max now (at + n + (m - n)))) + 1) y z (BlockOutcome is_local file now (at + n) part stands stands2 y.held z.held (Err w)) =
         subst (λ (k : ℕ). Worked (Hands (at + n) part) 1 (IsForFileWrite is_local file now (at + n) k) (top (block_count (max now (at + n + k))) + 1) y z (BlockOutcome is_local file now (at + n) part stands stands2 y.held z.held (Err w))) long e in
@@ -185,8 +186,8 @@ module _ (is_local : Type 0) (file size at len n m now : ℕ) (some : n < len) (
         λ call c. tree_wider is_local file (block_count now) (block_count (max now (at + n + length part))) (block_count size) (block_count (max size (at + length bytes))) (omega (arith, between)) (omega (arith, between, m_is, m_more, long, len_is)) call c in
         let written : FileWrite file (at + n) (length part) ≡ FileWrite file (at + n) (next_border at (length bytes) n - n) =
         ap (λ (k : ℕ). FileWrite file (at + n) k) (long ∙ ap (λ (k : ℕ). k - n) m_is ∙ ap (λ (k : ℕ). next_border at k n - n) len_is) in
-        let all : Worked (Hands at bytes) (touched at (at + len)) (IsForFileWrite is_local file size at len) (most_write size at len) x z (ProgressOutcome is_local file size at bytes (IsContent size first) (IsContent now stands2) x.held z.held n (Some w)) =
-        worked_more _ (touched at (at + n) + 1) (touched at (at + len)) _ _ x z _ (omega (arith, touched_next at n m m_more border (omega (arith, m_is)), touched_low)) (worked_so _ _ _ _ _ _ x z _ _ (worked_then _ _ _ _ _ _ x y z _ _ (ProgressOutcome is_local file size at bytes (IsContent size first) (IsContent now stands2) x.held z.held n (Some w)) d (worked_so _ _ _ _ _ _ y z _ _ (inner part is long _ _ e2) calls_for (omega arith) (λ t q. q)) (λ t p. p.0) (λ a b failed le p q. (
+        let all : Worked (Hands at bytes) (touched at (at + len)) (IsForFileWrite is_local file size at len) (most_write size at len) x z (ProgressOutcome is_local file size at bytes (meaning size first) (meaning now stands2) x.held z.held n (Some w)) =
+        worked_more _ (touched at (at + n) + 1) (touched at (at + len)) _ _ x z _ (omega (arith, touched_next at n m m_more border (omega (arith, m_is)), touched_low)) (worked_so _ _ _ _ _ _ x z _ _ (worked_then _ _ _ _ _ _ x y z _ _ (ProgressOutcome is_local file size at bytes (meaning size first) (meaning now stands2) x.held z.held n (Some w)) d (worked_so _ _ _ _ _ _ y z _ _ (inner part is long _ _ e2) calls_for (omega arith) (λ t q. q)) (λ t p. p.0) (λ a b failed le p q. (
           omega (arith, some, len_is),
           border,
           record {
@@ -194,19 +195,19 @@ module _ (is_local : Type 0) (file size at len n m now : ℕ) (some : n < len) (
                 let was = early a b n (omega arith) p c ok apart in
                 let kept = q.content (version c at bytes n) was.now (clear a b n (omega arith) c apart) in
                 let next : over (version c at bytes n) (at + n) part ≡ version c at bytes (next_border at (length bytes) n) = part_is part is c ∙ ap (version c at bytes) (m_is ∙ ap (λ (k : ℕ). next_border at k n) len_is) in
-                record { now = kept.now; agree = λ h. ⊎_elim (λ same. inl same) (λ u. inr (uncounted_on file (IsTreeTo is_local file now (max now (at + n + length part))) (IsTreeTo is_local file size (max size (at + length bytes))) wide x y z le is_local (FileWrite file (at + n) (length part)) _ a b failed w written u.0, subst (λ (v : List ℕ). IsAtHost z.held file v) next u.1)) (kept.agree (was.agree h)) };
-            blame = blame_on is_local file (IsForFileWrite is_local file now (at + n) (length part)) (IsForFileWrite is_local file size at (length bytes)) (IsContent now stands) (IsContent size first) (λ c. IsVersion c at bytes n) (λ c. version c at bytes n) x y z a b failed w le
+                record { now = kept.now; agree = λ h. ⊎_elim (λ same. inl same) (λ u. inr (uncounted_on file (IsTreeTo is_local file now (max now (at + n + length part))) (IsTreeTo is_local file size (max size (at + length bytes))) wide x y z le is_local (FileWrite file (at + n) (length part)) _ a b failed w written u.0, subst (λ (v : List ℕ). IsAtHost z.held file v) next u.1)) (kept.agree (was.agree h)); backed = λ h. kept.backed (was.backed h) };
+            blame = blame_on is_local file (IsForFileWrite is_local file now (at + n) (length part)) (IsForFileWrite is_local file size at (length bytes)) (meaning now stands) (meaning size first) (λ c. IsVersion c at bytes n) (λ c. version c at bytes n) x y z a b failed w le
                 (λ call f. subst (λ (k : ℕ). IsForFileWrite is_local file size at k call) len_is (calls_for call (subst (λ (k : ℕ). IsForFileWrite is_local file now (at + n) k call) long f)))
-                (λ c ok apart. ((early a b n (omega arith) p c ok apart).now, clear a b n (omega arith) c apart, λ l. (early a b n (omega arith) p c ok apart).agree))
+                (λ c ok apart. ((early a b n (omega arith) p c ok apart).now, clear a b n (omega arith) c apart, (let was = early a b n (omega arith) p c ok apart in λ h bk. (was.agree h, was.backed bk))))
                 q.blame;
           },
         ))) (λ call q. q) all_most (λ t q. q)) in
-        subst (λ (k : ℕ). Worked (Hands at bytes) (touched at (at + k)) (IsForFileWrite is_local file size at k) (most_write size at k) x z (ProgressOutcome is_local file size at bytes (IsContent size first) (IsContent now stands2) x.held z.held n (Some w))) len_is all
+        subst (λ (k : ℕ). Worked (Hands at bytes) (touched at (at + k)) (IsForFileWrite is_local file size at k) (most_write size at k) x z (ProgressOutcome is_local file size at bytes (meaning size first) (meaning now stands2) x.held z.held n (Some w))) len_is all
 
 -- nothing is in place yet
-pub step_start : (is_local : Type 0) (file size at len : ℕ) (bytes : List ℕ) (stands : List Digest → Type 0) (x : Told) → Worked (Hands at bytes) (touched at (at + 0)) (IsForFileWrite is_local file size at len) (touched at (at + 0) * (top (block_count (max size (at + len))) + 1)) x x
-    (IsPlacedTo file at bytes 0 (IsContent size stands) (IsContent size stands) x.held x.held)
-step_start is_local file size at len bytes stands x = worked_none _ _ _ _ x _ (refl, λ c is n. record { now = is; agree = λ h. h })
+pub step_start : (is_local : Type 0) (file size at len : ℕ) (bytes : List ℕ) (stands : Standing) (x : Told) → Worked (Hands at bytes) (touched at (at + 0)) (IsForFileWrite is_local file size at len) (touched at (at + 0) * (top (block_count (max size (at + len))) + 1)) x x
+    (IsPlacedTo file at bytes 0 (meaning size stands) (meaning size stands) x.held x.held)
+step_start is_local file size at len bytes stands x = worked_none _ _ _ _ x _ (refl, λ c is n. record { now = is; agree = λ h. h; backed = λ h. h })
 
 pub length-part : (xs : List ℕ) (n k : ℕ) → n + k ≤ length xs → length (slice_range xs n (n + k)) ≡ n + k - n
 length-part xs n k le = omega (arith, length-take (n + k - n) (drop n xs), length-drop n xs, le)
@@ -226,11 +227,11 @@ size_next size at n m now is lt = ⊎_elim
     (λ more. omega (arith, is, size_some size at n more, size_some size at m (omega (arith, lt)), lt)) (zero_or n)
 
 -- the size and the size's end by another name
-pub placed_as : (p : ℕ) (F : Call → Type 0) (most : ℕ) (x z : Told) (file at : ℕ) (bytes : List ℕ) (m a b : ℕ) (first : List ℕ → Type 0) (stands : List Digest → Type 0) → a ≡ b →
-    Worked (Hands at bytes) p F most x z (IsPlacedTo file at bytes m first (IsContent a stands) x.held z.held) → Worked (Hands at bytes) p F most x z (IsPlacedTo file at bytes m first (IsContent b stands) x.held z.held)
-placed_as p F most x z file at bytes m a b first stands e d = subst (λ (s : ℕ). Worked (Hands at bytes) p F most x z (IsPlacedTo file at bytes m first (IsContent s stands) x.held z.held)) e d
+pub placed_as : (p : ℕ) (F : Call → Type 0) (most : ℕ) (x z : Told) (file at : ℕ) (bytes : List ℕ) (m a b : ℕ) (first : Meaning) (stands : Standing) → a ≡ b →
+    Worked (Hands at bytes) p F most x z (IsPlacedTo file at bytes m first (meaning a stands) x.held z.held) → Worked (Hands at bytes) p F most x z (IsPlacedTo file at bytes m first (meaning b stands) x.held z.held)
+placed_as p F most x z file at bytes m a b first stands e d = subst (λ (s : ℕ). Worked (Hands at bytes) p F most x z (IsPlacedTo file at bytes m first (meaning s stands) x.held z.held)) e d
 
-pub all_placed : (is_local : Type 0) (file size at : ℕ) (bytes : List ℕ) (n : ℕ) (first after : List ℕ → Type 0) (x y : Told) → n ≡ length bytes →
+pub all_placed : (is_local : Type 0) (file size at : ℕ) (bytes : List ℕ) (n : ℕ) (first after : Meaning) (x y : Told) → n ≡ length bytes →
     Worked (Hands at bytes) (touched at (at + n)) (IsForFileWrite is_local file size at (length bytes)) (touched at (at + n) * (top (block_count (max size (at + length bytes))) + 1)) x y (IsPlacedTo file at bytes n first after x.held y.held) →
     Worked (Hands at bytes) (touched at (at + length bytes)) (IsForFileWrite is_local file size at (length bytes)) (most_write size at (length bytes)) x y (ProgressOutcome is_local file size at bytes first after x.held y.held n None)
 all_placed is_local file size at bytes n first after x y is d = worked_more _ (touched at (at + n)) (touched at (at + length bytes)) _ _ x y _ (rw is (omega arith)) (worked_so _ _ _ _ _ _ x y _ _ d (λ call q. q) (rw is (omega arith)) (λ t p. (is, p)))

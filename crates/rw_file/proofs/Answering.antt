@@ -13,7 +13,7 @@ use Rattle.verity_path.specs.declared.walk.WalkFault.TheVariants as walk
 use Rattle.rw_file.specs.declared.faults.RwFault.{RwFault}
 use Rattle.rw_file.specs.declared.faults.RwFault.TheVariants as fault
 use Rattle.rw_file.specs.declared.faults.Written.{Written}
-use Rattle.rw_file.specs.Contents.{IsVersion, version}
+use Rattle.rw_file.specs.Contents.{Meaning, IsSame, IsVersion, version}
 use Rattle.rw_file.specs.Calls.{IsForFileWrite, most_write, Hands}
 use Rattle.rw_file.specs.Blame.{Each, IsFileBlame}
 use Rattle.verity_path.specs.Range.{touched}
@@ -22,20 +22,20 @@ use Rattle.rw_file.specs.Steps.{ProgressOutcome, answer_of}
 use Rattle.rw_file.proofs.Serving.{says_because}
 
 -- what was so of the contents after room was taken is so of those before
-each_from : (before first : List ℕ → Type 0) (V : List ℕ → List ℕ → Type 0) (own : Exchanges) (P : List ℕ → Type 0) → ((c : List ℕ) → first c → before c) → Each before V own P → Each first V own P
+each_from : (before first : Meaning) (V : List ℕ → List ℕ → Type 0) (own : Exchanges) (P : List ℕ → Type 0) → ((c : List ℕ) → first.is c → before.is c) → Each before V own P → Each first V own P
 each_from before first V own P keeps e = λ c is n. e c (keeps c is) n
 
-pub blame_from : (is_local : Type 0) (file : ℕ) (F : Call → Type 0) (before first : List ℕ → Type 0) (V : List ℕ → List ℕ → Type 0) (made : List ℕ → List ℕ) (t : Trace) (w : WalkFault) → ((c : List ℕ) → first c → before c) →
+pub blame_from : (is_local : Type 0) (file : ℕ) (F : Call → Type 0) (before first : Meaning) (V : List ℕ → List ℕ → Type 0) (made : List ℕ → List ℕ) (t : Trace) (w : WalkFault) → IsSame first before →
     (held : Option Held) → IsFileBlame is_local held file F before V made t w → IsFileBlame is_local held file F first V made t w
 blame_from is_local file F before first V made t (walk.Mismatch m) keeps held q = (
-  record { failed = q.0.failed; differ = q.0.differ; bytes = q.0.bytes; call = q.0.call; page = q.0.page; own = q.0.own; found = q.0.found; expected = λ c is n. q.0.expected c (keeps c is) n },
-  λ c is n. q.1 c (keeps c is) n,
+  record { failed = q.0.failed; differ = q.0.differ; bytes = q.0.bytes; call = q.0.call; page = q.0.page; own = q.0.own; found = q.0.found; expected = λ c is n. q.0.expected c (keeps c is).0 n },
+  λ c is n h bk. q.1 c (keeps c is).0 n h ((keeps c is).1 held bk),
 )
-blame_from is_local file F before first V made t (walk.Short asked got) keeps held q = (q.0, λ c is n. q.1 c (keeps c is) n)
+blame_from is_local file F before first V made t (walk.Short asked got) keeps held q = (q.0, λ c is n h bk. q.1 c (keeps c is).0 n h ((keeps c is).1 held bk))
 blame_from is_local file F before first V made t (walk.Failed faults) keeps held q = q
 blame_from is_local file F before first V made t walk.Memory keeps held q = q
 
-module _ (is_local : Type 0) (file size at : ℕ) (bytes : List ℕ) (before first after : List ℕ → Type 0) (x y : Told) (keeps : (c : List ℕ) → first c → before c) where
+module _ (is_local : Type 0) (file size at : ℕ) (bytes : List ℕ) (before first after : Meaning) (x y : Told) (keeps : IsSame first before) where
   abbrev For : Call → Type 0
   For = IsForFileWrite is_local file size at (length bytes)
 
@@ -44,7 +44,7 @@ module _ (is_local : Type 0) (file size at : ℕ) (bytes : List ℕ) (before fir
 
   stopped_from : (n : ℕ) (w : WalkFault) (t : Trace) → IsStopped is_local file size at bytes n before after x.held y.held t w → IsStopped is_local file size at bytes n first after x.held y.held t w
   stopped_from n w t s = record {
-    content = λ c is k. s.content c (keeps c is) k;
+    content = λ c is k. let o = s.content c (keeps c is).0 k in record { now = o.now; agree = o.agree; backed = λ bk. o.backed ((keeps c is).1 x.held bk) };
     blame = blame_from is_local file For before first (λ c. IsVersion c at bytes n) (λ c. version c at bytes n) t w keeps x.held s.blame;
   }
 
@@ -52,7 +52,7 @@ module _ (is_local : Type 0) (file size at : ℕ) (bytes : List ℕ) (before fir
       Worked (Hands at bytes) (touched at (at + length bytes)) For most x y (WriteOutcome is_local file size at bytes first after x.held y.held (answer_of n None))
   answered_none n d = worked_so _ _ _ _ _ _ x y _ _ d (λ call q. q) (omega arith) (λ t p. (
     p.0,
-    record { failed = p.1.0; content = λ c is k. subst (λ (m : ℕ). Each first (λ c. IsVersion c at bytes m) t.own (λ c. IsNow after file x.held y.held c (version c at bytes m))) p.0 (λ c is k. p.1.1 c (keeps c is) k) c is k },
+    record { failed = p.1.0; content = λ c is k. subst (λ (m : ℕ). Each first (λ c. IsVersion c at bytes m) t.own (λ c. IsNow first after file x.held y.held c (version c at bytes m))) p.0 (λ c is k. let o = p.1.1 c (keeps c is).0 k in record { now = o.now; agree = o.agree; backed = λ bk. o.backed ((keeps c is).1 x.held bk) }) c is k },
   ))
 
   answered_zero : (w : WalkFault) (n : ℕ) → n ≡ 0 → Worked (Hands at bytes) (touched at (at + length bytes)) For most x y (ProgressOutcome is_local file size at bytes before after x.held y.held n (Some w)) →
@@ -90,17 +90,17 @@ size_told size at (suc n) (Some w) =
     sym (ap (size_after size at) same)
 
 -- no bytes
-pub no_bytes : (is_local : Type 0) (file size at : ℕ) (bytes : List ℕ) (before : List ℕ → Type 0) (x : Told) → bytes ≡ [] →
+pub no_bytes : (is_local : Type 0) (file size at : ℕ) (bytes : List ℕ) (before : Meaning) (x : Told) → bytes ≡ [] →
     Worked (Hands at bytes) (touched at (at + length bytes)) (IsForFileWrite is_local file size at (length bytes)) (most_write size at (length bytes)) x x (WriteOutcome is_local file size at bytes before before x.held x.held (Ok (record { count = 0; why = None })))
 no_bytes is_local file size at bytes before x none = subst (λ (bs : List ℕ). Worked (Hands at bs) (touched at (at + length bs)) (IsForFileWrite is_local file size at (length bs)) (most_write size at (length bs)) x x (WriteOutcome is_local file size at bs before before x.held x.held (Ok (record { count = 0; why = None }))))
-    (sym none) (worked_none _ _ _ _ x _ (refl, record { failed = refl; content = λ c is n. record { now = is; agree = λ h. h } }))
+    (sym none) (worked_none _ _ _ _ x _ (refl, record { failed = refl; content = λ c is n. record { now = is; agree = λ h. h; backed = λ h. h } }))
 
 -- they end past the limit
-pub ends_past : (is_local : Type 0) (file size at : ℕ) (bytes : List ℕ) (before : List ℕ → Type 0) (x : Told) (end : ℕ) → 0 < length bytes → 4294967296 < at + length bytes → end ≡ min (at + length bytes) (2 ^ 64 - 1) →
+pub ends_past : (is_local : Type 0) (file size at : ℕ) (bytes : List ℕ) (before : Meaning) (x : Told) (end : ℕ) → 0 < length bytes → 4294967296 < at + length bytes → end ≡ min (at + length bytes) (2 ^ 64 - 1) →
     Worked (Hands at bytes) (touched at (at + length bytes)) (IsForFileWrite is_local file size at (length bytes)) (most_write size at (length bytes)) x x (WriteOutcome is_local file size at bytes before before x.held x.held (Err (fault.TooLarge end)))
-ends_past is_local file size at bytes before x end some large is = worked_none _ _ _ _ x _ (some, record { large = large; end_is = is; none = refl; failed = refl; kept = λ c b. b })
+ends_past is_local file size at bytes before x end some large is = worked_none _ _ _ _ x _ (some, record { large = large; end_is = is; none = refl; failed = refl; kept = λ c b. (b, λ held bk. bk) })
 
 -- there was no room
-pub no_room : (is_local : Type 0) (file size at : ℕ) (bytes : List ℕ) (before after : List ℕ → Type 0) (x : Told) → ((c : List ℕ) → before c → after c) →
+pub no_room : (is_local : Type 0) (file size at : ℕ) (bytes : List ℕ) (before after : Meaning) (x : Told) → IsSame before after →
     Worked (Hands at bytes) (touched at (at + length bytes)) (IsForFileWrite is_local file size at (length bytes)) (most_write size at (length bytes)) x x (WriteOutcome is_local file size at bytes before after x.held x.held (Err fault.Memory))
 no_room is_local file size at bytes before after x keeps = worked_none _ _ _ _ x _ (inl (record { none = refl; failed = refl; kept = keeps }))

@@ -13,9 +13,9 @@ use Rattle.sha_tree.specs.Path.{IsInput, NoClash}
 use Rattle.verity_path.specs.Pieces.{IsPiece, IsSeen}
 use Rattle.verity_path.specs.declared.states.Mismatch.{Mismatch}
 use Rattle.leaf_tree.specs.Leaves.{leaf, no_digest, tree_page, digest_at, IsPlace, IsTreeHashed}
-use Rattle.leaf_tree.specs.Outcomes.{Becomes, IsTreeCall, IsTreeMismatch}
+use Rattle.leaf_tree.specs.Outcomes.{Standing, Becomes, IsTreeCall, IsTreeMismatch}
 use Rattle.leaf_tree.proofs.Trees.{bytes-digest, bytes-page}
-use Rattle.rw_file.specs.Contents.{digests_of, IsContent, IsFileHashed, Only}
+use Rattle.rw_file.specs.Contents.{digests_of, meaning, Meaning, IsFileHashed, Only}
 use Rattle.rw_file.specs.Blame.{Each, IsFileMismatch}
 use Rattle.rw_file.specs.Rows.{IsNow}
 use Rattle.rw_file.specs.Steps.{Still}
@@ -67,16 +67,15 @@ file_hashed V W own whole so more x (inr (inl z)) = inr (inl z)
 file_hashed V W own whole so more x (inr (inr s)) = inr (inr (seen_more own whole x more s))
 
 -- what holds without clashes among fewer holds without clashes among more
-pub each_more : (before : List ℕ → Type 0) (V W : List ℕ → List ℕ → Type 0) (own whole : Exchanges) (P : List ℕ → Type 0) → ((c v : List ℕ) → V c v → W c v) → IsPart own whole → Each before V own P → Each before W whole P
+pub each_more : (before : Meaning) (V W : List ℕ → List ℕ → Type 0) (own whole : Exchanges) (P : List ℕ → Type 0) → ((c v : List ℕ) → V c v → W c v) → IsPart own whole → Each before V own P → Each before W whole P
 each_more before V W own whole P so more e = λ c b n. e c b (apart_fewer (IsFileHashed (V c) own) (IsFileHashed (W c) whole) (file_hashed (V c) (W c) own whole (so c) more) n)
 
 -- a tree whose lists stay stands for the contents still
-pub kept_by : (size : ℕ) (stands stands2 : List Digest → Type 0) (file : ℕ) (x y : Option Held) (own : Exchanges) → Becomes stands stands2 (λ ds. ds) own → Still file x y →
-    Each (IsContent size stands) Only own (λ c. IsNow (IsContent size stands2) file x y c c)
-kept_by size stands stands2 file x y own b still = λ c is n. record {
-  now = record { size_is = is.size_is; tree = b (digests_of c) is.tree (apart_fewer (IsTreeHashed (digests_of c) own) (IsFileHashed (Only c) own) (tree_hashed (Only c) c own own refl (λ p q. q)) n) };
-  agree = still c;
-}
+pub kept_by : (size : ℕ) (stands stands2 : Standing) (file : ℕ) (x y : Option Held) (own : Exchanges) → Becomes stands stands2 x y (λ ds. ds) own → Still file x y →
+    Each (meaning size stands) Only own (λ c. IsNow (meaning size stands) (meaning size stands2) file x y c c)
+kept_by size stands stands2 file x y own b still = λ c is n.
+    let k = b (digests_of c) is.tree (apart_fewer (IsTreeHashed (digests_of c) own) (IsFileHashed (Only c) own) (tree_hashed (Only c) c own own refl (λ p q. q)) n) in
+    record { now = record { size_is = is.size_is; tree = k.now }; agree = still c; backed = k.backed }
 
 level_above : (is_local : Type 0) (file a b level i : ℕ) → IsTreeCall is_local file a b (TreeRead file level i) → 0 < level
 level_above is_local file a b level i c = elim c.call_is [
@@ -85,8 +84,8 @@ level_above is_local file a b level i c = elim c.call_is [
 ]
 
 -- a page of the tree that was heard is not that of the contents
-pub tree_mismatch : (is_local : Type 0) (file size a b : ℕ) (stands : List Digest → Type 0) (t : Trace) (x : Mismatch) → ((call : Call) (said : Said) → IsIn call said t.own → IsTreeCall is_local file a b call) →
-    IsTreeMismatch file stands t x → IsFileMismatch file (IsContent size stands) Only (λ c. c) t x
+pub tree_mismatch : (is_local : Type 0) (file size a b : ℕ) (stands : Standing) (t : Trace) (x : Mismatch) → ((call : Call) (said : Said) → IsIn call said t.own → IsTreeCall is_local file a b call) →
+    IsTreeMismatch file stands.stands t x → IsFileMismatch file (meaning size stands) Only (λ c. c) t x
 tree_mismatch is_local file size a b stands t x calls m =
     let some = level_above is_local file a b x.level x.index (calls (TreeRead file x.level x.index) (Bytes m.bytes) (last_in (TreeRead file x.level x.index) (Bytes m.bytes) t.own m.own)) in
     record {

@@ -11,7 +11,7 @@ use Rattle.sha_tree.proofs.Levels.{pages_at-zero}
 use Rattle.host_traits.specs.declared.calls.Call.TheVariants.{FileRead}
 use Rattle.verity_path.specs.States.{Place}
 use Rattle.verity_path.specs.declared.states.Mismatch.{Mismatch}
-use Rattle.rw_file.specs.Contents.{IsFileHashed, IsDigestOf, Only}
+use Rattle.rw_file.specs.Contents.{Meaning, IsFileHashed, IsDigestOf, Only}
 use Rattle.rw_file.specs.Calls.{block_read}
 use Rattle.rw_file.specs.Blame.{Each, IsFileMismatch, Lied}
 use Rattle.rw_file.specs.Steps.{IsBrought}
@@ -36,7 +36,7 @@ module _ (file size count i : ℕ) (same : count ≡ block_count size) (there : 
   there_in : (c : List ℕ) → size ≡ length c → i < block_count (length c)
   there_in c e = subst (λ (k : ℕ). i < block_count k) e (omega (arith, same, there))
 
-  module _ (before after : List ℕ → Type 0) (sized : (c : List ℕ) → before c → size ≡ length c) (x y : Option Held) (raw : List ℕ) (anchor : Place) (t : Trace) (b : IsBrought file size i before after x y raw anchor t) where
+  module _ (before after : Meaning) (sized : (c : List ℕ) → before.is c → size ≡ length c) (x y : Option Held) (raw : List ℕ) (anchor : Place) (t : Trace) (b : IsBrought file size i before after x y raw anchor t) where
     -- what was heard has the block's digest, so it is the block
     pub is_known : page_hash anchor.salt (padded raw) ≡ anchor.digest → Each before Only t.own (λ c. padded raw ≡ block c i)
     is_known met = λ c is n.
@@ -47,9 +47,9 @@ module _ (file size count i : ℕ) (same : count ≡ block_count size) (there : 
         hash
 
     -- it has another
-    pub is_other : (is_local : Type 0) (m : Mismatch) → m.expected.0 ≢ m.found.0 → m.expected.0 ≡ anchor.digest → m.found.0 ≡ page_hash anchor.salt (padded raw) → m.level ≡ anchor.level → m.index ≡ anchor.index →
-        IsFileMismatch file before Only (λ c. c) t m × Lied is_local x file before Only t.own
-    is_other is_local m differ expected found level index =
+    pub is_other : (m : Mismatch) → m.expected.0 ≢ m.found.0 → m.expected.0 ≡ anchor.digest → m.found.0 ≡ page_hash anchor.salt (padded raw) → m.level ≡ anchor.level → m.index ≡ anchor.index →
+        IsFileMismatch file before Only (λ c. c) t m × Lied x file before Only t.own
+    is_other m differ expected found level index =
         let at_level : m.level ≡ 0 = level ∙ b.prepared.place.1 in
         let at_index : m.index ≡ i = index ∙ b.prepared.place.2 in (
           record {
@@ -64,7 +64,7 @@ module _ (file size count i : ℕ) (same : count ≡ block_count size) (there : 
                 let one : IsDigestOf c 0 i m.expected.0 = record { level_in = omega arith; index = block_within c i (there_in c (sized c is)); is = expected ∙ (b.prepared.kept c is n).1 ∙ ap (page_hash []) (sym (block_page c i)) } in
                 subst (λ (l : ℕ). IsDigestOf c l m.index m.expected.0) (sym at_level) (subst (λ (k : ℕ). IsDigestOf c 0 k m.expected.0) (sym at_index) one);
           },
-          λ c is n l h.
+          λ c is n h bk.
               let whole : padded raw ≡ block c i = heard_block c i raw (b.at_host c is n h ∙ ap (λ (k : ℕ). take (min (k - 4096 * i) 4096) (drop (4096 * i) c)) (sized c is)) in
               differ (expected ∙ (b.prepared.kept c is n).1 ∙ ap (page_hash []) (sym whole) ∙ sym (found ∙ ap (λ (s : List ℕ). page_hash s (padded raw)) b.prepared.place.0)),
         )

@@ -9,6 +9,7 @@ use Rattle.host_traits.specs.declared.calls.Call.{Call}
 use Rattle.host_traits.specs.Held.{Held}
 use Rattle.host_traits.specs.Told.{Told, Exchanges}
 use Rattle.host_traits.specs.Did.{trace_of}
+use Rattle.leaf_tree.specs.Outcomes.{Standing}
 use Rattle.leaf_tree.specs.Worked.{Worked, HandsPage}
 use Rattle.host_traits.proofs.Doing.{failed_later, failed_so}
 use Rattle.verity_path.proofs.Order.{last_later, last_short_later}
@@ -22,7 +23,7 @@ use Rattle.verity_path.specs.declared.walk.WalkFault.{WalkFault}
 use Rattle.verity_path.specs.declared.walk.WalkFault.TheVariants as walk
 use Rattle.verity_path.proofs.Pieces.{piece_left, piece_right}
 use Rattle.sha_tree.specs.Path.{NoClash}
-use Rattle.rw_file.specs.Contents.{IsAtHost, IsContent, IsFileHashed, Only}
+use Rattle.rw_file.specs.Contents.{Meaning, meaning, IsAtHost, IsFileHashed, Only}
 use Rattle.rw_file.specs.Calls.{IsForFileRead, most_read}
 use Rattle.rw_file.specs.Blame.{Each, IsFileBlame}
 use Rattle.rw_file.specs.Rows.{IsNow, IsKept, ReadOutcome, because, FaultSays}
@@ -31,10 +32,10 @@ use Rattle.rw_file.proofs.Bytes.{lt_or_le, get_or-block, length-block}
 use Rattle.rw_file.proofs.Hashed.{each_more, apart_fewer, file_hashed}
 use Rattle.rw_file.proofs.Known.{is_known, is_other, all_of}
 
-module _ (is_local : Type 0) (file size count i : ℕ) (same : count ≡ block_count size) (there : i < count) (stands stands2 : List Digest → Type 0) (x y : Told) (anchor : Place) (raw : List ℕ) (n : ℕ) (n_is : n ≡ length raw)
-    (d : Worked HandsPage 0 (IsForBlock is_local file size i) (top (block_count size) + 1) x y (BringOutcome is_local file size i (IsContent size stands) (IsContent size stands2) x.held y.held raw (Ok anchor))) where
+module _ (is_local : Type 0) (file size count i : ℕ) (same : count ≡ block_count size) (there : i < count) (stands stands2 : Standing) (x y : Told) (anchor : Place) (raw : List ℕ) (n : ℕ) (n_is : n ≡ length raw)
+    (d : Worked HandsPage 0 (IsForBlock is_local file size i) (top (block_count size) + 1) x y (BringOutcome is_local file size i (meaning size stands) (meaning size stands2) x.held y.held raw (Ok anchor))) where
   pub serve_ok : (from to : ℕ) (u : Unit {0}) (old new : List ℕ) (p : Met) → p.page ≡ padded (slice_range raw 0 (0 + n)) → p.anchor ≡ anchor → IsMet p → new ≡ old ++ slice_range p.page from to → from ≤ to → to ≤ 4096 →
-      Worked HandsPage 0 (IsForBlock is_local file size i) (top (block_count size) + 1) x y (ServeOutcome is_local file size i from to (IsContent size stands) (IsContent size stands2) x.held y.held old new (Ok u))
+      Worked HandsPage 0 (IsForBlock is_local file size i) (top (block_count size) + 1) x y (ServeOutcome is_local file size i from to (meaning size stands) (meaning size stands2) x.held y.held old new (Ok u))
   serve_ok from to u old new p page_is anchor_is met new_is order within =
       let whole : p.page ≡ padded raw = page_is ∙ all_of raw n n_is in
       let hash : page_hash anchor.salt (padded raw) ≡ anchor.digest = ap (λ (a : Place). page_hash a.salt (padded raw)) (sym anchor_is) ∙ ap (page_hash p.anchor.salt) (sym whole) ∙ met ∙ ap (λ (a : Place). a.digest) anchor_is in
@@ -43,21 +44,21 @@ module _ (is_local : Type 0) (file size count i : ℕ) (same : count ≡ block_c
         count = omega (arith, ap length new_is, length-append old (slice_range p.page from to), length-take (to - from) (drop from p.page), length-drop from p.page, long, order, within);
         content = λ c is clash. (
           (b.prepared.kept c is clash).0,
-          new_is ∙ ap (λ (q : List ℕ). old ++ slice_range q from to) (whole ∙ is_known file size count i same there (IsContent size stands) (IsContent size stands2) (λ c is. is.size_is) x.held y.held raw anchor t b hash c is clash),
+          new_is ∙ ap (λ (q : List ℕ). old ++ slice_range q from to) (whole ∙ is_known file size count i same there (meaning size stands) (meaning size stands2) (λ c is. is.size_is) x.held y.held raw anchor t b hash c is clash),
         );
       })
 
   pub serve_bad : (from to : ℕ) (old new : List ℕ) (m : Mismatch) → m.expected.0 ≢ m.found.0 → m.expected.0 ≡ anchor.digest → m.found.0 ≡ page_hash anchor.salt (padded (slice_range raw 0 (0 + n))) → m.level ≡ anchor.level → m.index ≡ anchor.index →
-      Worked HandsPage 0 (IsForBlock is_local file size i) (top (block_count size) + 1) x y (ServeOutcome is_local file size i from to (IsContent size stands) (IsContent size stands2) x.held y.held old new (Err (walk.Mismatch m)))
+      Worked HandsPage 0 (IsForBlock is_local file size i) (top (block_count size) + 1) x y (ServeOutcome is_local file size i from to (meaning size stands) (meaning size stands2) x.held y.held old new (Err (walk.Mismatch m)))
   serve_bad from to old new m differ expected found level index =
       worked_so _ _ _ _ _ _ x y _ _ d (λ call q. q) (omega arith) (λ t b. record {
         kept = λ c is clash. (b.prepared.kept c is clash).0;
-        blame = is_other file size count i same there (IsContent size stands) (IsContent size stands2) (λ c is. is.size_is) x.held y.held raw anchor t b is_local m differ expected (found ∙ ap (page_hash anchor.salt) (all_of raw n n_is)) level index;
+        blame = is_other file size count i same there (meaning size stands) (meaning size stands2) (λ c is. is.size_is) x.held y.held raw anchor t b m differ expected (found ∙ ap (page_hash anchor.salt) (all_of raw n n_is)) level index;
       })
 
 -- one after another
-pub now_on : (after more : List ℕ → Type 0) (file : ℕ) (x y z : Option Held) (c d e : List ℕ) → IsNow after file x y c d → IsNow more file y z d e → IsNow more file x z c e
-now_on after more file x y z c d e a b = record { now = b.now; agree = λ h. b.agree (a.agree h) }
+pub now_on : (before after more : Meaning) (file : ℕ) (x y z : Option Held) (c d e : List ℕ) → IsNow before after file x y c d → IsNow after more file y z d e → IsNow before more file x z c e
+now_on before after more file x y z c d e a b = record { now = b.now; agree = λ h. b.agree (a.agree h); backed = λ h. b.backed (a.backed h) }
 
 -- the slice of a block after the slice before it
 slice_on : (c : List ℕ) (offset mid end i : ℕ) → mid ≡ max offset (4096 * i) → offset ≤ mid → mid ≤ end → end ≤ 4096 * i + 4096 → end ≤ length c →
@@ -100,8 +101,8 @@ read_for is_local file size offset len i some from to call (inl is) = (some, inl
 read_for is_local file size offset len i some from to call (inr tree) = (some, inr tree)
 
 -- where no content stands between, the cause of a later part is that of the whole
-pub blame_on : (is_local : Type 0) (file : ℕ) (F G : Call → Type 0) (before first : List ℕ → Type 0) (V : List ℕ → List ℕ → Type 0) (made : List ℕ → List ℕ) (a b c : Told) (x y : Exchanges) (failed : ℕ) (w : WalkFault) → a.faults ≤ b.faults → ((call : Call) → F call → G call) →
-    Each first V (x ++ y) (λ content. before (made content) × NoClash (IsFileHashed (Only (made content)) y) × (is_local → IsAtHost a.held file content → IsAtHost b.held file (made content))) →
+pub blame_on : (is_local : Type 0) (file : ℕ) (F G : Call → Type 0) (before first : Meaning) (V : List ℕ → List ℕ → Type 0) (made : List ℕ → List ℕ) (a b c : Told) (x y : Exchanges) (failed : ℕ) (w : WalkFault) → a.faults ≤ b.faults → ((call : Call) → F call → G call) →
+    Each first V (x ++ y) (λ content. before.is (made content) × NoClash (IsFileHashed (Only (made content)) y) × (IsAtHost a.held file content → first.backed a.held content → IsAtHost b.held file (made content) × before.backed b.held (made content))) →
     IsFileBlame is_local b.held file F before Only (λ c. c) (trace_of y failed b c) w → IsFileBlame is_local a.held file G first V made (trace_of (x ++ y) failed a c) w
 blame_on is_local file F G before first V made a b c x y failed (walk.Mismatch m) le wider mid q = (
   record {
@@ -114,9 +115,9 @@ blame_on is_local file F G before first V made a b c x y failed (walk.Mismatch m
     found = q.0.found;
     expected = λ content is n. let there = mid content is n in q.0.expected (made content) there.0 there.1;
   },
-  λ content is n l h. let there = mid content is n in q.1 (made content) there.0 there.1 l (there.2 l h),
+  λ content is n h bk. let there = mid content is n in let so = there.2 h bk in q.1 (made content) there.0 there.1 so.0 so.1,
 )
-blame_on is_local file F G before first V made a b c x y failed (walk.Short asked got) le wider mid q = (last_short_later a b c x y failed asked got q.0, λ content is n l h. let there = mid content is n in q.1 (made content) there.0 there.1 l (there.2 l h))
+blame_on is_local file F G before first V made a b c x y failed (walk.Short asked got) le wider mid q = (last_short_later a b c x y failed asked got q.0, λ content is n h bk. let there = mid content is n in let so = there.2 h bk in q.1 (made content) there.0 there.1 so.0 so.1)
 blame_on is_local file F G before first V made a b c x y failed (walk.Failed faults) le wider mid q = failed_later G a b c x y failed faults le (failed_so F G _ faults wider q)
 blame_on is_local file F G before first V made a b c x y failed walk.Memory le wider mid q = q
 
@@ -129,7 +130,7 @@ says_because P Q R walk.Memory p = inr p
 touched_some : (offset end : ℕ) → offset < end → touched offset end ≡ (end + 4095) / 4096 - offset / 4096
 touched_some offset end lt = grind (arith, lt)
 
-module _ (is_local : Type 0) (file size offset len end : ℕ) (end_is : end ≡ end_of size offset len) (some : offset < end) (first : List Digest → Type 0) where
+module _ (is_local : Type 0) (file size offset len end : ℕ) (end_is : end ≡ end_of size offset len) (some : offset < end) (first : Standing) where
   abbrev answers : ℕ → ℕ
   answers index = (index - offset / 4096) * (top (block_count size) + 1)
 
@@ -148,23 +149,23 @@ module _ (is_local : Type 0) (file size offset len end : ℕ) (end_is : end ≡ 
       rw next (sym (suc-mul (index - offset / 4096) (top (block_count size) + 1)))
 
   pub read_start : (x : Told) (bytes : List ℕ) → bytes ≡ [] → Worked HandsPage 0 (IsForFileRead is_local file size offset len) (answers (offset / 4096)) x x
-      (IsServedTo file offset (mid_of (offset / 4096)) (IsContent size first) (IsContent size first) x.held x.held bytes)
+      (IsServedTo file offset (mid_of (offset / 4096)) (meaning size first) (meaning size first) x.held x.held bytes)
   read_start x bytes none =
       let here : min end (max offset (4096 * (offset / 4096))) - offset ≡ 0 = omega arith in
       worked_none _ _ _ _ x _ (record {
         failed = refl;
         count = omega (arith, ap length none, here);
-        content = λ c is n. (record { now = is; agree = λ h. h }, none ∙ ap (λ (k : ℕ). take k (drop offset c)) (sym here));
+        content = λ c is n. (record { now = is; agree = λ h. h; backed = λ h. h }, none ∙ ap (λ (k : ℕ). take k (drop offset c)) (sym here));
       })
 
-  module _ (stands stands2 : List Digest → Type 0) (x y z : Told) (index : ℕ) (bytes : List ℕ) (from : offset / 4096 ≤ index) (to : 4096 * index < end)
-      (d : Worked HandsPage 0 (IsForFileRead is_local file size offset len) (answers index) x y (IsServedTo file offset (mid_of index) (IsContent size first) (IsContent size stands) x.held y.held bytes)) where
+  module _ (stands stands2 : Standing) (x y z : Told) (index : ℕ) (bytes : List ℕ) (from : offset / 4096 ≤ index) (to : 4096 * index < end)
+      (d : Worked HandsPage 0 (IsForFileRead is_local file size offset len) (answers index) x y (IsServedTo file offset (mid_of index) (meaning size first) (meaning size stands) x.held y.held bytes)) where
     wider : (call : Call) → IsForBlock is_local file size index call → IsForFileRead is_local file size offset len call
     wider = read_for is_local file size offset len index some_in from (rw (← end_is) to)
 
     pub read_on : (new : List ℕ) (u : Unit {0}) → Worked HandsPage 0 (IsForBlock is_local file size index) (top (block_count size) + 1) y z
-        (ServeOutcome is_local file size index (max offset (4096 * index) - 4096 * index) (min end (4096 * index + 4096) - 4096 * index) (IsContent size stands) (IsContent size stands2) y.held z.held bytes new (Ok u)) →
-        Worked HandsPage 0 (IsForFileRead is_local file size offset len) (answers (index + 1)) x z (IsServedTo file offset (mid_of (index + 1)) (IsContent size first) (IsContent size stands2) x.held z.held new)
+        (ServeOutcome is_local file size index (max offset (4096 * index) - 4096 * index) (min end (4096 * index + 4096) - 4096 * index) (meaning size stands) (meaning size stands2) y.held z.held bytes new (Ok u)) →
+        Worked HandsPage 0 (IsForFileRead is_local file size offset len) (answers (index + 1)) x z (IsServedTo file offset (mid_of (index + 1)) (meaning size first) (meaning size stands2) x.held z.held new)
     read_on new u e =
         let mid : ℕ = max offset (4096 * index) in
         let far : ℕ = min end (4096 * index + 4096) in
@@ -174,40 +175,40 @@ module _ (is_local : Type 0) (file size offset len end : ℕ) (end_is : end ≡ 
           failed = q.failed;
           count = omega (arith, p.count, q.count);
           content = λ c is n.
-              let early = each_more (IsContent size first) Only Only a (a ++ b) _ (λ c v e. e) (piece_left a b) p.content c is n in
-              let late = each_more (IsContent size stands) Only Only b (a ++ b) _ (λ c v e. e) (piece_right a b) q.content c early.0.now n in
+              let early = each_more (meaning size first) Only Only a (a ++ b) _ (λ c v e. e) (piece_left a b) p.content c is n in
+              let late = each_more (meaning size stands) Only Only b (a ++ b) _ (λ c v e. e) (piece_right a b) q.content c early.0.now n in
               let inside : far ≤ length c = omega (arith, is.size_is, end_is) in (
-                now_on (IsContent size stands) (IsContent size stands2) file x.held y.held z.held c c c early.0 late.0,
+                now_on (meaning size first) (meaning size stands) (meaning size stands2) file x.held y.held z.held c c c early.0 late.0,
                 late.1 ∙ ap (λ (s : List ℕ). s ++ slice_range (block c index) (mid - 4096 * index) (far - 4096 * index)) (early.1 ∙ ap (λ (k : ℕ). take (k - offset) (drop offset c)) here)
                     ∙ slice_on c offset mid far index refl (omega arith) (omega arith) (omega arith) inside ∙ ap (λ (k : ℕ). take (k - offset) (drop offset c)) (sym next),
               );
         }))
 
     pub read_bad : (left new : List ℕ) (from_at to_at : ℕ) (w : WalkFault) → Worked HandsPage 0 (IsForBlock is_local file size index) (top (block_count size) + 1) y z
-        (ServeOutcome is_local file size index from_at to_at (IsContent size stands) (IsContent size stands2) y.held z.held bytes new (Err w)) →
-        Worked HandsPage 0 (IsForFileRead is_local file size offset len) (most_read size offset len) x z (ReadOutcome is_local file size offset len (IsContent size first) (IsContent size stands2) x.held z.held left (Err (because w)))
+        (ServeOutcome is_local file size index from_at to_at (meaning size stands) (meaning size stands2) y.held z.held bytes new (Err w)) →
+        Worked HandsPage 0 (IsForFileRead is_local file size offset len) (most_read size offset len) x z (ReadOutcome is_local file size offset len (meaning size first) (meaning size stands2) x.held z.held left (Err (because w)))
     read_bad left new from_at to_at w e =
         let last : index + 1 - offset / 4096 ≤ (end + 4095) / 4096 - offset / 4096 = omega arith in
         let low = mul-le-mul_right (top (block_count size) + 1) last in
         let both : answers index + (top (block_count size) + 1) ≤ most_read size offset len = rw (all_answers, more_answers index from) low in
         worked_so _ _ _ _ _ _ x z _ _ (worked_then _ _ _ _ _ _ x y z _ _ _ d (worked_so _ _ _ _ _ _ y z _ _ e wider (omega arith) (λ t q. q)) (λ t p. p.failed) (λ a b failed le p q.
-        says_because (IsKept is_local file (IsForFileRead is_local file size offset len) (IsContent size first) (IsContent size stands2) x.held z.held (trace_of (a ++ b) failed x z)) _ _ w (record {
+        says_because (IsKept is_local file (IsForFileRead is_local file size offset len) (meaning size first) (meaning size stands2) x.held z.held (trace_of (a ++ b) failed x z)) _ _ w (record {
           kept = λ c is n.
-              let early = each_more (IsContent size first) Only Only a (a ++ b) _ (λ c v e. e) (piece_left a b) p.content c is n in
-              let late = each_more (IsContent size stands) Only Only b (a ++ b) _ (λ c v e. e) (piece_right a b) q.kept c early.0.now n in
-              now_on (IsContent size stands) (IsContent size stands2) file x.held y.held z.held c c c early.0 late;
-          blame = blame_on is_local file (IsForBlock is_local file size index) (IsForFileRead is_local file size offset len) (IsContent size stands) (IsContent size first) Only (λ c. c) x y z a b failed w le wider
+              let early = each_more (meaning size first) Only Only a (a ++ b) _ (λ c v e. e) (piece_left a b) p.content c is n in
+              let late = each_more (meaning size stands) Only Only b (a ++ b) _ (λ c v e. e) (piece_right a b) q.kept c early.0.now n in
+              now_on (meaning size first) (meaning size stands) (meaning size stands2) file x.held y.held z.held c c c early.0 late;
+          blame = blame_on is_local file (IsForBlock is_local file size index) (IsForFileRead is_local file size offset len) (meaning size stands) (meaning size first) Only (λ c. c) x y z a b failed w le wider
               (λ c is n. (
-                (each_more (IsContent size first) Only Only a (a ++ b) _ (λ c v e. e) (piece_left a b) p.content c is n).0.now,
+                (each_more (meaning size first) Only Only a (a ++ b) _ (λ c v e. e) (piece_left a b) p.content c is n).0.now,
                 apart_fewer (IsFileHashed (Only c) b) (IsFileHashed (Only c) (a ++ b)) (file_hashed (Only c) (Only c) b (a ++ b) (λ v e. e) (piece_right a b)) n,
-                λ l. (each_more (IsContent size first) Only Only a (a ++ b) _ (λ c v e. e) (piece_left a b) p.content c is n).0.agree,
+                (let early = (each_more (meaning size first) Only Only a (a ++ b) _ (λ c v e. e) (piece_left a b) p.content c is n).0 in λ h bk. (early.agree h, early.backed bk)),
               ))
               q.blame;
         }))) (λ call q. q) both (λ t q. q)
 
-  pub read_end : (stands : List Digest → Type 0) (x y : Told) (index : ℕ) (bytes : List ℕ) (u : Unit {0}) → index ≡ (end + 4095) / 4096 →
-      Worked HandsPage 0 (IsForFileRead is_local file size offset len) (answers index) x y (IsServedTo file offset (mid_of index) (IsContent size first) (IsContent size stands) x.held y.held bytes) →
-      Worked HandsPage 0 (IsForFileRead is_local file size offset len) (most_read size offset len) x y (ReadOutcome is_local file size offset len (IsContent size first) (IsContent size stands) x.held y.held bytes (Ok u))
+  pub read_end : (stands : Standing) (x y : Told) (index : ℕ) (bytes : List ℕ) (u : Unit {0}) → index ≡ (end + 4095) / 4096 →
+      Worked HandsPage 0 (IsForFileRead is_local file size offset len) (answers index) x y (IsServedTo file offset (mid_of index) (meaning size first) (meaning size stands) x.held y.held bytes) →
+      Worked HandsPage 0 (IsForFileRead is_local file size offset len) (most_read size offset len) x y (ReadOutcome is_local file size offset len (meaning size first) (meaning size stands) x.held y.held bytes (Ok u))
   read_end stands x y index bytes u last d =
       let e : min end (max offset (4096 * index)) ≡ end = omega (arith, last) in
       let bound : answers index ≤ most_read size offset len = rw (all_answers, last) (omega arith) in
@@ -221,11 +222,11 @@ module _ (is_local : Type 0) (file size offset len end : ℕ) (end_is : end ≡ 
       })
 
 -- an empty range
-pub read_none : (is_local : Type 0) (file size offset len : ℕ) (stands : List Digest → Type 0) (x : Told) (bytes : List ℕ) (u : Unit {0}) → end_of size offset len ≤ offset → bytes ≡ [] →
-    Worked HandsPage 0 (IsForFileRead is_local file size offset len) (most_read size offset len) x x (ReadOutcome is_local file size offset len (IsContent size stands) (IsContent size stands) x.held x.held bytes (Ok u))
+pub read_none : (is_local : Type 0) (file size offset len : ℕ) (stands : Standing) (x : Told) (bytes : List ℕ) (u : Unit {0}) → end_of size offset len ≤ offset → bytes ≡ [] →
+    Worked HandsPage 0 (IsForFileRead is_local file size offset len) (most_read size offset len) x x (ReadOutcome is_local file size offset len (meaning size stands) (meaning size stands) x.held x.held bytes (Ok u))
 read_none is_local file size offset len stands x bytes u le none =
     worked_none _ _ _ _ x _ (record {
       failed = refl;
       count = omega (arith, ap length none, le);
-      content = λ c is n. (record { now = is; agree = λ h. h }, none ∙ sym (nothing_left c offset len (omega (arith, le, is.size_is))));
+      content = λ c is n. (record { now = is; agree = λ h. h; backed = λ h. h }, none ∙ sym (nothing_left c offset len (omega (arith, le, is.size_is))));
     })

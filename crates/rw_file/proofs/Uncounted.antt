@@ -1,24 +1,25 @@
 -- A call on a file's bytes that was answered and isn't counted.
-use Rattle.std.proofs.Common.{◌≡◌, ℕ, ◌≤◌, ◌∙◌, List, [], ◌∷◌, ◌++◌, refl, ap, append_assoc}
+use Rattle.std.proofs.Common.{◌≡◌, ℕ, ◌≤◌, ◌∙◌, List, [], ◌∷◌, ◌++◌, refl, ap, append_assoc, Option}
 use Rattle.mg_base.specs.declared.values.Digest.{Digest}
 use Rattle.host_traits.specs.declared.calls.Call.{Call}
 use Rattle.host_traits.specs.declared.calls.Said.{Said}
 use Rattle.host_traits.specs.declared.calls.Said.TheVariants.{Done}
+use Rattle.host_traits.specs.Held.{Held}
 use Rattle.host_traits.specs.Told.{Told, Exchanges}
 use Rattle.host_traits.specs.Did.{IsIn, trace_of}
 use Rattle.host_traits.proofs.Doing.{failed_later, failed_so}
 use Rattle.verity_path.specs.declared.walk.WalkFault.{WalkFault}
 use Rattle.verity_path.specs.declared.walk.WalkFault.TheVariants as walk
-use Rattle.leaf_tree.specs.Outcomes.{IsTreeBlame}
+use Rattle.leaf_tree.specs.Outcomes.{Standing, IsTreeBlame}
 use Rattle.rw_file.specs.Rows.{IsTreeFault, IsUncounted}
 
 -- the tree's blame, after other calls
 module _ (file : ℕ) (F G : Call → Type 0) (wider : (call : Call) → F call → G call) (x y z : Told) (le : x.faults ≤ y.faults) where
-  pub fault_of : (stands : List Digest → Type 0) (a b : Exchanges) (failed : ℕ) (why : WalkFault) → IsTreeBlame file F stands (trace_of b failed y z) why → IsTreeFault file G b (trace_of (a ++ b) failed x z) why
-  fault_of stands a b failed (walk.Mismatch m) q = (q.bytes, q.own)
-  fault_of stands a b failed (walk.Short asked got) q = (q.short.call, q.short.bytes, q.last, q.short.asks, q.short.got_is, q.short.short)
-  fault_of stands a b failed (walk.Failed faults) q = failed_later G x y z a b failed faults le (failed_so F G _ faults wider q)
-  fault_of stands a b failed walk.Memory q = tt
+  pub fault_of : (stands : Standing) (held : Option Held) (a b : Exchanges) (failed : ℕ) (why : WalkFault) → IsTreeBlame file F stands held (trace_of b failed y z) why → IsTreeFault file G b (trace_of (a ++ b) failed x z) why
+  fault_of stands held a b failed (walk.Mismatch m) q = (q.0.bytes, q.0.own)
+  fault_of stands held a b failed (walk.Short asked got) q = (q.0.short.call, q.0.short.bytes, q.0.last, q.0.short.asks, q.0.short.got_is, q.0.short.short)
+  fault_of stands held a b failed (walk.Failed faults) q = failed_later G x y z a b failed faults le (failed_so F G _ faults wider q)
+  fault_of stands held a b failed walk.Memory q = tt
 
   fault_later : (rest a b : Exchanges) (failed : ℕ) (why : WalkFault) → IsTreeFault file F rest (trace_of b failed y z) why → IsTreeFault file G rest (trace_of (a ++ b) failed x z) why
   fault_later rest a b failed (walk.Mismatch m) q = q
