@@ -1,5 +1,5 @@
 -- A write, block by block.
-use Rattle.std.proofs.Common.{◌≡◌, ℕ, zero, suc, ◌+◌, ◌-◌, ◌*◌, ◌/◌, ◌%◌, ◌<◌, ◌≤◌, ◌∙◌, ◌⊎◌, List, ◌++◌, length, take, drop, min, max, Some, None, Ok, Err, true, false, refl, ap, sym, subst, arith, inl, inr, ⊎_elim}
+use Rattle.std.proofs.Common.{◌≡◌, ℕ, zero, suc, ◌+◌, ◌-◌, ◌*◌, ◌/◌, ◌%◌, ◌<◌, ◌≤◌, ◌∙◌, ◌⊎◌, List, [], ◌∷◌, ◌++◌, map, length, take, drop, min, max, Some, None, Ok, Err, true, false, refl, ap, sym, subst, arith, inl, inr, ⊎_elim}
 use Rattle.std.specs.Prelude.{slice_range, nat_eq}
 use Rattle.std.proofs.lemmas.Bool.{ne_eqb, eq-eqb}
 use Rattle.std.proofs.lemmas.List.{length-take, length-drop}
@@ -20,7 +20,7 @@ use Rattle.verity_path.specs.Range.{touched}
 use Rattle.verity_path.specs.declared.walk.WalkFault.{WalkFault}
 use Rattle.verity_path.proofs.Pieces.{piece_left, piece_right}
 use Rattle.rw_file.specs.Contents.{Meaning, meaning, IsFileHashed, IsAtHost, Only, version, next_border, IsBorder, IsVersion}
-use Rattle.rw_file.specs.Calls.{block_read, IsForFileWrite, most_write, Hands}
+use Rattle.rw_file.specs.Calls.{block_read, block_write, block_writes, WritesTo, changes_in, IsForFileWrite, most_write, Hands}
 use Rattle.rw_file.specs.Blame.{Each}
 use Rattle.rw_file.specs.Rows.{IsNow, IsTreeTo, size_with}
 use Rattle.rw_file.specs.Steps.{BlockOutcome, IsPlacedTo, ProgressOutcome}
@@ -29,7 +29,10 @@ use Rattle.rw_file.proofs.Hashed.{apart_fewer, file_hashed, each_more}
 use Rattle.rw_file.proofs.Serving.{now_on, blame_on}
 use Rattle.rw_file.proofs.Splicing.{top-mono}
 use Rattle.rw_file.proofs.Putting.{tree_wider}
+use Rattle.rw_file.proofs.Changing.{touched_none, writes_none, then_none, then_more}
 use Rattle.rw_file.proofs.Handing.{part_hands}
+use Rattle.std.specs.List.{range_with_len}
+use Rattle.std.proofs.lemmas.List.FromFn.{map-range_with_len_more}
 use Rattle.rw_file.proofs.Uncounted.{uncounted_on}
 
 take-on : (xs : List ℕ) (n m : ℕ) → n ≤ m → take n xs ++ take (m - n) (drop n xs) ≡ take m xs
@@ -56,9 +59,6 @@ size_some size at n some = let test : nat_eq n 0 ≡ false = ne_eqb n 0 (λ z. o
 zero_or : (n : ℕ) → (n ≡ 0) ⊎ (0 < n)
 zero_or zero = inl refl
 zero_or (suc n) = inr (omega arith)
-
-touched_none : (at : ℕ) → touched at (at + 0) ≡ 0
-touched_none at = grind arith
 
 touched_next : (at n m : ℕ) → n < m → (n ≡ 0) ⊎ ((at + n) % 4096 ≡ 0) → m ≤ 4096 * ((at + n) / 4096 + 1) - at → touched at (at + m) ≡ touched at (at + n) + 1
 touched_next at n m lt border le = ⊎_elim
@@ -128,6 +128,25 @@ module _ (is_local : Type 0) (file size at len n m now : ℕ) (some : n < len) (
   each_low : top (block_count (max now (at + n + (m - n)))) + 1 ≤ top (block_count (max size (at + len))) + 1
   each_low = let b = now_between in let low = top-mono (block_count (max now (at + n + (m - n)))) (block_count (max size (at + len))) (omega (arith, b, m_is, m_more)) in omega (arith, low)
 
+  -- the n-th byte is the first of its block's
+  block_at : at / 4096 + touched at (at + n) ≡ (at + n) / 4096
+  block_at = ⊎_elim
+      (λ z. ap (λ (k : ℕ). at / 4096 + touched at (at + k)) z ∙ ap (λ (k : ℕ). at / 4096 + k) (touched_none at) ∙ (let e : at / 4096 + 0 ≡ (at + n) / 4096 = omega (arith, z) in e))
+      (λ more. let full : touched at (at + n) ≡ (at + n + 4095) / 4096 - at / 4096 = grind (arith, more) in omega (arith, full, more.1, more.0))
+      start_or
+
+  block_is : (k : ℕ) → k ≡ m - n → block_write file at (at + len) ((at + n) / 4096) ≡ FileWrite file (at + n) k
+  block_is k is =
+      let begins : max at (4096 * ((at + n) / 4096)) ≡ at + n = ⊎_elim (λ z. omega (arith, z)) (λ a. omega (arith, a.1)) start_or in
+      let ends : min (at + len) (4096 * ((at + n) / 4096 + 1)) - (at + n) ≡ k = omega (arith, is, m_is, some) in
+      ap (λ (b : ℕ). FileWrite file b (min (at + len) (4096 * ((at + n) / 4096 + 1)) - b)) begins ∙ ap (λ (c : ℕ). FileWrite file (at + n) c) ends
+
+  blocks_next : (k : ℕ) → k ≡ m - n → block_writes file at len n ++ FileWrite file (at + n) k ∷ [] ≡ block_writes file at len m
+  blocks_next k is = sym (
+      ap (λ (j : ℕ). map (block_write file at (at + len)) (range_with_len (at / 4096) j)) (touched_next at n m m_more border (omega (arith, m_is)))
+      ∙ map-range_with_len_more (block_write file at (at + len)) (at / 4096) (touched at (at + n)) ((at + n) / 4096) block_at
+      ∙ ap (λ (c : Call). block_writes file at len n ++ c ∷ []) (block_is k is))
+
   module _ (bytes : List ℕ) (len_is : len ≡ length bytes) (first stands : Standing) (x y z : Told)
       (d : Worked (Hands at bytes) (touched at (at + n)) (IsForFileWrite is_local file size at len) (touched at (at + n) * (top (block_count (max size (at + len))) + 1)) x y (IsPlacedTo file at bytes n (meaning size first) (meaning now stands) x.held y.held)) where
     -- the version that is here is one of those
@@ -141,7 +160,18 @@ module _ (is_local : Type 0) (file size at len n m now : ℕ) (some : n < len) (
     early : (a b : Exchanges) (k : ℕ) → n ≤ k → IsPlacedTo file at bytes n (meaning size first) (meaning now stands) x.held y.held (trace_of a 0 x y) →
         Each (meaning size first) (λ c. IsVersion c at bytes k) (a ++ b) (λ c. IsNow (meaning size first) (meaning now stands) file x.held y.held c (version c at bytes n))
     early a b k le p = each_more (meaning size first) (λ c. IsVersion c at bytes n) (λ c. IsVersion c at bytes k) a (a ++ b) _
-        (λ c v i. record { n = i.n; most = omega (arith, i.most, le); border = i.border; is = i.is }) (piece_left a b) p.1
+        (λ c v i. record { n = i.n; most = omega (arith, i.most, le); border = i.border; is = i.is }) (piece_left a b) p.2
+
+    more_writes : (a b : Exchanges) (k : ℕ) → k ≡ m - n → changes_in a ≡ block_writes file at (length bytes) n → changes_in b ≡ FileWrite file (at + n) k ∷ [] → changes_in (a ++ b) ≡ block_writes file at (length bytes) m
+    more_writes a b k is first more =
+        then_more a b (block_writes file at (length bytes) n) (FileWrite file (at + n) k ∷ []) first more
+        ∙ subst (λ (l : ℕ). block_writes file at l n ++ FileWrite file (at + n) k ∷ [] ≡ block_writes file at l m) len_is (blocks_next k is)
+
+    writes_to : (a b : Exchanges) (k : ℕ) → k ≡ m - n → changes_in a ≡ block_writes file at (length bytes) n → (changes_in b ≡ []) ⊎ ((is_local → ⊥) × (changes_in b ≡ FileWrite file (at + n) k ∷ []))
+        → WritesTo is_local file at (length bytes) n (a ++ b)
+    writes_to a b k is first (inl none) = inl (then_none a b (block_writes file at (length bytes) n) first none)
+    writes_to a b k is first (inr far) =
+        inr (far.0, more_writes a b k is first far.1 ∙ ap (λ (j : ℕ). block_writes file at (length bytes) j) (m_is ∙ ap (λ (l : ℕ). next_border at l n) len_is))
 
     part_is : (part : List ℕ) → part ≡ slice_range bytes n m → (c : List ℕ) → over (version c at bytes n) (at + n) part ≡ version c at bytes m
     part_is part is c = ap (λ (q : List ℕ). over (version c at bytes n) (at + n) q) is ∙ version-on c at bytes n m m_more (omega (arith, m_is, len_is))
@@ -160,9 +190,9 @@ module _ (is_local : Type 0) (file size at len n m now : ℕ) (some : n < len) (
         let next : touched at (at + m) ≡ suc (touched at (at + n)) = touched_next at n m m_more border (omega (arith, m_is)) ∙ (let s : touched at (at + n) + 1 ≡ suc (touched at (at + n)) = omega arith in s) in
         let bound : touched at (at + m) * (top (block_count (max size (at + len))) + 1) ≡ touched at (at + n) * (top (block_count (max size (at + len))) + 1) + (top (block_count (max size (at + len))) + 1) =
         ap (λ (k : ℕ). k * (top (block_count (max size (at + len))) + 1)) next ∙ suc-mul (touched at (at + n)) (top (block_count (max size (at + len))) + 1) in
-        rw bound (worked_more _ (touched at (at + n) + 1) (touched at (at + m)) _ _ x z _ (omega (arith, next)) (worked_then _ _ _ _ _ _ x y z _ _ _ d (worked_so _ _ _ _ _ _ y z _ _ (inner part is long _ _ e2) calls_for each_low (λ t q. q)) (λ t p. p.0) (λ a b failed le p q. (q.0, λ c ok apart.
+        rw bound (worked_more _ (touched at (at + n) + 1) (touched at (at + m)) _ _ x z _ (omega (arith, next)) (worked_then _ _ _ _ _ _ x y z _ _ _ d (worked_so _ _ _ _ _ _ y z _ _ (inner part is long _ _ e2) calls_for each_low (λ t q. q)) (λ t p. p.0) (λ a b failed le p q. (q.0, more_writes a b (length part) long p.1 q.1, λ c ok apart.
         let was = early a b m (omega (arith, m_more)) p c ok apart in
-        let now2 = q.1 (version c at bytes n) was.now (clear a b m (omega (arith, m_more)) c apart) in
+        let now2 = q.2 (version c at bytes n) was.now (clear a b m (omega (arith, m_more)) c apart) in
         subst (λ (v : List ℕ). IsNow (meaning size first) (meaning (max now (at + n + length part)) stands2) file x.held z.held c v) (part_is part is c)
         (now_on (meaning size first) (meaning now stands) (meaning (max now (at + n + length part)) stands2) file x.held y.held z.held c (version c at bytes n) (over (version c at bytes n) (at + n) part) was now2)))))
 
@@ -191,6 +221,7 @@ module _ (is_local : Type 0) (file size at len n m now : ℕ) (some : n < len) (
           omega (arith, some, len_is),
           border,
           record {
+            writes = writes_to a b (length part) long p.1 q.writes;
             content = λ c ok apart.
                 let was = early a b n (omega arith) p c ok apart in
                 let kept = q.content (version c at bytes n) was.now (clear a b n (omega arith) c apart) in
@@ -207,7 +238,7 @@ module _ (is_local : Type 0) (file size at len n m now : ℕ) (some : n < len) (
 -- nothing is in place yet
 pub step_start : (is_local : Type 0) (file size at len : ℕ) (bytes : List ℕ) (stands : Standing) (x : Told) → Worked (Hands at bytes) (touched at (at + 0)) (IsForFileWrite is_local file size at len) (touched at (at + 0) * (top (block_count (max size (at + len))) + 1)) x x
     (IsPlacedTo file at bytes 0 (meaning size stands) (meaning size stands) x.held x.held)
-step_start is_local file size at len bytes stands x = worked_none _ _ _ _ x _ (refl, λ c is n. record { now = is; agree = λ h. h; backed = λ h. h })
+step_start is_local file size at len bytes stands x = worked_none _ _ _ _ x _ (refl, writes_none file at (length bytes), λ c is n. record { now = is; agree = λ h. h; backed = λ h. h })
 
 pub length-part : (xs : List ℕ) (n k : ℕ) → n + k ≤ length xs → length (slice_range xs n (n + k)) ≡ n + k - n
 length-part xs n k le = omega (arith, length-take (n + k - n) (drop n xs), length-drop n xs, le)

@@ -23,11 +23,12 @@ use Rattle.verity_path.proofs.Pieces.{piece_left, piece_right}
 use Rattle.leaf_tree.specs.Leaves.{resized as leaves_resized, IsTreeHashed}
 use Rattle.leaf_tree.specs.Outcomes.{Standing, IsTreeCall, IsTreeBlame, IsBecome, TreeOutcome, Keeps}
 use Rattle.rw_file.specs.Contents.{IsContent, meaning, IsAtHost, IsFileHashed, Only, digests_of, leaf_of}
-use Rattle.rw_file.specs.Calls.{IsForFileWrite, Hands}
+use Rattle.rw_file.specs.Calls.{IsForFileWrite, Hands, changes_in}
 use Rattle.rw_file.specs.Blame.{Each, IsFileBlame}
 use Rattle.rw_file.specs.Rows.{IsUncounted, IsTreeTo}
 use Rattle.rw_file.specs.Steps.{AllStill, IsThis, IsForBlock, PrepareOutcome, BringOutcome, BaseOutcome, Fits, spliced, with_leaf, WriteOutOutcome, BlockOutcome, base_most, settle_most}
 use Rattle.rw_file.proofs.Bytes.{lt_or_le, length-over}
+use Rattle.rw_file.proofs.Changing.{none_then, then_none, worked_changes}
 use Rattle.rw_file.proofs.Handing.{whole_hands, page_hands}
 use Rattle.rw_file.proofs.Uncounted.{fault_of}
 use Rattle.rw_file.proofs.Holding.{held_by, held_refused, held_unheard, written, written_tree, still_same, still_trees}
@@ -85,10 +86,10 @@ module _ (file at : ℕ) (part : List ℕ) (x y : Told) where
   out_ok u a = worked_answered _ _ _ (FileWrite file at (length part)) part Done 0 x y _ refl (whole_hands file at part) (omega arith) (omega arith) a (refl, refl, written file at (length part) part Done x.held y.held (held_by _ part Done x y a), written_tree file at (length part) part Done x.held y.held (held_by _ part Done x y a))
 
   pub out_failed : (faults : ℕ) → Refused (FileWrite file at (length part)) part x y → faults ≡ y.faults → Worked (Hands at part) 1 (IsThis (FileWrite file at (length part))) 0 x y (WriteOutOutcome file at part x.held y.held (Err (walk.Failed faults)))
-  out_failed faults r is = worked_refused _ _ _ (FileWrite file at (length part)) part 0 x y _ refl (whole_hands file at part) (omega arith) (omega arith) r (still_same file x.held y.held (held_refused _ part x y r), is_failed _ (FileWrite file at (length part)) part x y [] faults refl r is)
+  out_failed faults r is = worked_refused _ _ _ (FileWrite file at (length part)) part 0 x y _ refl (whole_hands file at part) (omega arith) (omega arith) r (still_same file x.held y.held (held_refused _ part x y r), is_failed _ (FileWrite file at (length part)) part x y [] faults refl r is, refl)
 
   pub out_memory : Unheard x y → Worked (Hands at part) 1 (IsThis (FileWrite file at (length part))) 0 x y (WriteOutOutcome file at part x.held y.held (Err walk.Memory))
-  out_memory u = worked_unheard _ _ _ 0 x y _ u (still_same file x.held y.held (held_unheard x y u), record { failed = refl; scarce = u.scarce })
+  out_memory u = worked_unheard _ _ _ 0 x y _ u (still_same file x.held y.held (held_unheard x y u), record { failed = refl; scarce = u.scarce }, refl)
 
 -- the page over which the bytes are put
 module _ (is_local : Type 0) (file size count at len : ℕ) (same : count ≡ block_count size) (some : 0 < len) (one : at % 4096 + len ≤ 4096) (stands stands2 : Standing) (x y : Told) where
@@ -204,9 +205,10 @@ module _ (is_local : Type 0) (file size count at : ℕ) (part : List ℕ) (same 
 
   pub put_no_base : (w : WalkFault) (page : List ℕ) → Worked HandsPage 0 For (base_most (block_count size) i) x y (BaseOutcome is_local file size at (length part) (meaning size stands) (meaning size stands1) x.held y.held page (Err w)) →
       Worked (Hands at part) 1 For most x y (BlockOutcome is_local file size at part stands stands1 x.held y.held (Err w))
-  put_no_base w page d = worked_more _ 0 1 _ _ x y _ (omega arith) (worked_so _ _ _ _ _ _ x y _ _ (lift _ x y _ d) (λ call q. q) base_low (λ t q. record {
-    content = λ c is n. let k = q.kept c is n in record { now = k.now; agree = λ h. inl (k.agree h); backed = k.backed };
-    blame = q.blame;
+  put_no_base w page d = worked_more _ 0 1 _ _ x y _ (omega arith) (worked_so _ _ _ _ _ _ x y _ _ (lift _ x y _ (worked_changes _ _ _ x y _ d)) (λ call q. q) base_low (λ t q. record {
+    writes = inl q.1;
+    content = λ c is n. let k = q.0.kept c is n in record { now = k.now; agree = λ h. inl (k.agree h); backed = k.backed };
+    blame = q.0.blame;
   }))
 
   module _ (u : Unit {0}) (page : List ℕ) (d : Worked HandsPage 0 For (base_most (block_count size) i) x y (BaseOutcome is_local file size at (length part) (meaning size stands) (meaning size stands1) x.held y.held page (Ok u))) (z : Told) (lasts : Lasts file (meaning size stands1)) where
@@ -217,12 +219,19 @@ module _ (is_local : Type 0) (file size count at : ℕ) (part : List ℕ) (same 
     out_blame (walk.Failed faults) a b failed le q = (q.0, failed_later For x y z a b failed faults le (failed_so _ _ _ faults out_for q.1))
     out_blame walk.Memory a b failed le q = (q.0, (q.1.failed, λ l. q.1.scarce))
 
+    out_none : (w : WalkFault) (b : Exchanges) (failed : ℕ) → WriteOutOutcome file at part y.held z.held (Err w) (trace_of b failed y z) → b ≡ []
+    out_none (walk.Mismatch m) b failed q = absurd q
+    out_none (walk.Short asked got) b failed q = absurd q
+    out_none (walk.Failed faults) b failed q = q.2
+    out_none walk.Memory b failed q = q.2
+
     pub put_not_out : (w : WalkFault) → Worked (Hands at part) 1 (IsThis (FileWrite file at (length part))) 0 y z (WriteOutOutcome file at part y.held z.held (Err w)) →
         Worked (Hands at part) 1 For most x z (BlockOutcome is_local file size at part stands stands1 x.held z.held (Err w))
-    put_not_out w e = worked_so _ _ _ _ _ _ x z _ _ (worked_then _ _ _ _ _ _ x y z _ _ _ (lift _ x y _ d) (worked_so _ _ _ _ 0 0 y z _ _ e out_for (omega arith) (λ t q. q)) (λ t p. p.0) (λ a b failed le p q.
+    put_not_out w e = worked_so _ _ _ _ _ _ x z _ _ (worked_then _ _ _ _ _ _ x y z _ _ _ (lift _ x y _ (worked_changes _ _ _ x y _ d)) (worked_so _ _ _ _ 0 0 y z _ _ e out_for (omega arith) (λ t q. q)) (λ t p. p.0.0) (λ a b failed le p q.
         let blame = out_blame w a b failed le q in record {
+          writes = inl (none_then a b [] p.1 (ap (λ (l : Exchanges). changes_in l) (out_none w b failed q)));
           content = λ c is n.
-              let k = each_more (meaning size stands) Only Only a (a ++ b) _ (λ c v e. e) (piece_left a b) p.1 c is n in
+              let k = each_more (meaning size stands) Only Only a (a ++ b) _ (λ c v e. e) (piece_left a b) p.0.1 c is n in
               record { now = k.0.now; agree = λ h. inl (blame.0.bytes c (k.0.agree h)); backed = λ h. lasts y.held z.held c blame.0.tree (k.0.backed h) };
           blame = blame.1;
         })) (λ call q. q) (omega (arith, base_low)) (λ t q. q)
@@ -230,14 +239,15 @@ module _ (is_local : Type 0) (file size count at : ℕ) (part : List ℕ) (same 
     -- the bytes are at the host
     abbrev Ready : Trace → Type 0
     Ready t = (t.failed ≡ 0) × Each (meaning size stands) Only t.own (λ c. IsContent size stands1.stands c × Fits at (length part) c page × (IsAtHost x.held file c → IsAtHost z.held file (over c at part)) × (stands.backed x.held (digests_of c) → stands1.backed z.held (digests_of c)))
-        × ((before : Exchanges) × (t.own ≡ before ++ (FileWrite file at (length part), Done) ∷ []))
+        × ((before : Exchanges) × (t.own ≡ before ++ (FileWrite file at (length part), Done) ∷ [])) × (changes_in t.own ≡ FileWrite file at (length part) ∷ [])
 
     ready : (v : Unit {0}) → Worked (Hands at part) 1 (IsThis (FileWrite file at (length part))) 0 y z (WriteOutOutcome file at part y.held z.held (Ok v)) → Worked (Hands at part) 1 For (base_most (block_count size) i + 0) x z Ready
-    ready v e = worked_then _ _ _ _ _ _ x y z _ _ _ (lift _ x y _ d) (worked_so _ _ _ _ 0 0 y z _ _ e out_for (omega arith) (λ t q. q)) (λ t p. p.0) (λ a b failed le p q. (
+    ready v e = worked_then _ _ _ _ _ _ x y z _ _ _ (lift _ x y _ (worked_changes _ _ _ x y _ d)) (worked_so _ _ _ _ 0 0 y z _ _ e out_for (omega arith) (λ t q. q)) (λ t p. p.0.0) (λ a b failed le p q. (
       q.0,
-      λ c is n. (let k = each_more (meaning size stands) Only Only a (a ++ b) _ (λ c v e. e) (piece_left a b) p.1 c is n in
+      λ c is n. (let k = each_more (meaning size stands) Only Only a (a ++ b) _ (λ c v e. e) (piece_left a b) p.0.1 c is n in
           (k.0.now, k.1, λ h. q.2 c (k.0.agree h), λ h. lasts y.held z.held c q.3 (k.0.backed h))),
       (a, ap (λ (l : Exchanges). a ++ l) q.1),
+      none_then a b (FileWrite file at (length part) ∷ []) p.1 (ap (λ (l : Exchanges). changes_in l) q.1),
     ))
 
     module _ (v : Unit {0}) (e : Worked (Hands at part) 1 (IsThis (FileWrite file at (length part))) 0 y z (WriteOutOutcome file at part y.held z.held (Ok v))) (digest : Digest) (stands2 : Standing) (w : Told) where
@@ -268,23 +278,24 @@ module _ (is_local : Type 0) (file size count at : ℕ) (part : List ℕ) (same 
             worked_calls Tree f.own f.calls,
             f.outcome.1,
           ) in
-          worked_so _ _ _ _ _ _ x w _ _ (worked_then _ _ _ _ _ _ x z w _ _ _ (ready v e) (lift _ z w _ known) (λ t p. p.0) (λ a b failed le p q. record {
+          worked_so _ _ _ _ _ _ x w _ _ (worked_then _ _ _ _ _ _ x z w _ _ _ (ready v e) (lift _ z w _ (worked_changes _ _ _ z w _ known)) (λ t p. p.0) (λ a b failed le p q. record {
+            writes = inr (far, then_none a b (FileWrite file at (length part) ∷ []) p.3 q.1);
             content = λ c is n.
                 let k = each_more (meaning size stands) Only Only a (a ++ b) _ (λ c v e. e) (piece_left a b) p.1 c is n in
-                let o = q.0 c k.0 (clear a b c n) in
-                record { now = record { size_is = is.size_is; tree = o.now }; agree = λ h. inr (uncounted a b failed why le p.2 q.1 q.2, still (over c at part) (k.2 h)); backed = λ h. o.backed (k.3 h) };
-            blame = tree_blame_on is_local file size count (max count (i + 1)) For stands1 stands x z w a b failed why far le settle_for q.1
-                (λ c is n. let k = each_more (meaning size stands) Only Only a (a ++ b) _ (λ c v e. e) (piece_left a b) p.1 c is n in (k.0, k.3)) q.2;
+                let o = q.0.0 c k.0 (clear a b c n) in
+                record { now = record { size_is = is.size_is; tree = o.now }; agree = λ h. inr (uncounted a b failed why le p.2 q.0.1 q.0.2, still (over c at part) (k.2 h)); backed = λ h. o.backed (k.3 h) };
+            blame = tree_blame_on is_local file size count (max count (i + 1)) For stands1 stands x z w a b failed why far le settle_for q.0.1
+                (λ c is n. let k = each_more (meaning size stands) Only Only a (a ++ b) _ (λ c v e. e) (piece_left a b) p.1 c is n in (k.0, k.3)) q.0.2;
           })) (λ call q. q) all_low (λ t q. q)
 
       pub put_all : (k : Unit {0}) (new : List ℕ) → new ≡ spliced page (at % 4096) part → digest.0 ≡ page_hash [] new → Worked HandsPage 0 Tree (settle_most count i) z w (TreeOutcome file Tree stands1 stands2 z.held w.held (with_leaf i digest) (Ok k)) →
           Worked (Hands at part) 1 For most x w (BlockOutcome is_local file size at part stands stands2 x.held w.held (Ok k))
       put_all k new new_is hash f =
           let still = still_trees is_local file count (max count (i + 1)) (settle_most count i) z w _ f in
-          worked_so _ _ _ _ _ _ x w _ _ (worked_then _ _ _ _ _ _ x z w _ _ _ (ready v e) (lift _ z w _ (worked_so _ _ _ _ _ _ z w _ _ f settle_for (omega arith) (λ t q. q))) (λ t p. p.0) (λ a b failed le p q. (q.0, λ c is n.
+          worked_so _ _ _ _ _ _ x w _ _ (worked_then _ _ _ _ _ _ x z w _ _ _ (ready v e) (lift _ z w _ (worked_changes _ _ _ z w _ (worked_so _ _ _ _ _ _ z w _ _ f settle_for (omega arith) (λ t q. q)))) (λ t p. p.0) (λ a b failed le p q. (q.0.0, then_none a b (FileWrite file at (length part) ∷ []) p.3 q.1, λ c is n.
           let g = each_more (meaning size stands) Only Only a (a ++ b) _ (λ c v e. e) (piece_left a b) p.1 c is n in
           let leaf : digest ≡ leaf_of (over c at part) i = ap (λ (bytes : List ℕ). let d : Digest = record { 0 = bytes } in d) (hash ∙ ap (page_hash []) (new_is ∙ g.1 part refl)) in
-          let o = q.1 (digests_of c) g.0.tree (clear a b c n) in
+          let o = q.0.1 (digests_of c) g.0.tree (clear a b c n) in
           record {
             now = record {
               size_is = ap (λ (s : ℕ). max s end) is.size_is ∙ sym (length-over c at part);

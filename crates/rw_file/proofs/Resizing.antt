@@ -24,10 +24,11 @@ use Rattle.leaf_tree.specs.Leaves.{resized as leaves_resized, IsTreeHashed}
 use Rattle.leaf_tree.specs.Outcomes.{Standing, IsTreeCall, IsTreeBlame, IsBecome, TreeOutcome}
 use Rattle.rw_file.specs.declared.faults.RwFault.TheVariants as fault
 use Rattle.rw_file.specs.Contents.{Meaning, meaning, IsSame, IsContent, IsFileHashed, Only, digests_of}
-use Rattle.rw_file.specs.Calls.{IsForCut, most_cut}
+use Rattle.rw_file.specs.Calls.{IsForCut, most_cut, changes_in, CutsNone}
 use Rattle.rw_file.specs.Blame.{IsFileBlame}
 use Rattle.rw_file.specs.Rows.{because, IsNow, IsUncounted, IsTreeTo, IsUncut, CutOutcome}
 use Rattle.rw_file.specs.Steps.{AllStill, IsThis, IsForBlock, BringOutcome, ResizeOutcome, DigestOutcome, CutTreeOutcome, ChangeOutcome}
+use Rattle.rw_file.proofs.Changing.{none_then, then_none, worked_changes}
 use Rattle.rw_file.proofs.Bytes.{length-resized}
 use Rattle.rw_file.proofs.Uncounted.{fault_of, uncounted_on}
 use Rattle.rw_file.proofs.Holding.{held_by, held_refused, held_unheard, cut_there, cut_leaves_tree, still_same, still_trees}
@@ -46,10 +47,10 @@ module _ (file to : ℕ) (x y : Told) where
   sized_ok u a = worked_answered _ _ _ (Resize file to) [] Done 0 x y _ refl refl (omega arith) (omega arith) a (refl, refl, cut_there file to [] Done x.held y.held (held_by _ [] Done x y a), cut_leaves_tree file to [] Done x.held y.held (held_by _ [] Done x y a))
 
   pub sized_failed : (faults : ℕ) → Refused (Resize file to) [] x y → faults ≡ y.faults → Worked HandsPage 1 (IsThis (Resize file to)) 0 x y (ResizeOutcome file to x.held y.held (Err (walk.Failed faults)))
-  sized_failed faults r is = worked_refused _ _ _ (Resize file to) [] 0 x y _ refl refl (omega arith) (omega arith) r (still_same file x.held y.held (held_refused _ [] x y r), is_failed _ (Resize file to) [] x y [] faults refl r is)
+  sized_failed faults r is = worked_refused _ _ _ (Resize file to) [] 0 x y _ refl refl (omega arith) (omega arith) r (still_same file x.held y.held (held_refused _ [] x y r), is_failed _ (Resize file to) [] x y [] faults refl r is, refl)
 
   pub sized_memory : Unheard x y → Worked HandsPage 1 (IsThis (Resize file to)) 0 x y (ResizeOutcome file to x.held y.held (Err walk.Memory))
-  sized_memory u = worked_unheard _ _ _ 0 x y _ u (still_same file x.held y.held (held_unheard x y u), record { failed = refl; scarce = u.scarce })
+  sized_memory u = worked_unheard _ _ _ 0 x y _ u (still_same file x.held y.held (held_unheard x y u), record { failed = refl; scarce = u.scarce }, refl)
 
 module _ (is_local : Type 0) (file size count to : ℕ) (last : Option Digest) (same : count ≡ block_count size) (other : to ≢ size) (stands : Standing) (x y : Told) (lasts : Lasts file (meaning size stands)) where
   abbrev For : Call → Type 0
@@ -67,8 +68,15 @@ module _ (is_local : Type 0) (file size count to : ℕ) (last : Option Digest) (
   sized_blame (walk.Failed faults) t q = (q.0, failed_so _ _ t faults size_for q.1)
   sized_blame walk.Memory t q = (q.0, (q.1.failed, λ l. q.1.scarce))
 
+  sized_none : (w : WalkFault) (t : Trace) → ResizeOutcome file to x.held y.held (Err w) t → t.own ≡ []
+  sized_none (walk.Mismatch m) t q = absurd q
+  sized_none (walk.Short asked got) t q = absurd q
+  sized_none (walk.Failed faults) t q = q.2
+  sized_none walk.Memory t q = q.2
+
   pub not_sized : (w : WalkFault) → Worked HandsPage 1 (IsThis (Resize file to)) 0 x y (ResizeOutcome file to x.held y.held (Err w)) → Worked HandsPage 1 For most x y (CutTreeOutcome is_local file size to last stands stands x.held y.held (Err w))
   not_sized w d = worked_so _ _ _ _ _ _ x y _ _ d size_for (omega arith) (λ t q. let b = sized_blame w t q in record {
+    calls = inl (ap (λ (l : Exchanges). changes_in l) (sized_none w t q));
     content = λ c is n. record { now = is; agree = λ h. inl (b.0.bytes c h); backed = λ h. lasts x.held y.held c b.0.tree h };
     blame = b.1;
   })
@@ -106,18 +114,19 @@ module _ (is_local : Type 0) (file size count to : ℕ) (last : Option Digest) (
           worked_calls Tree e.own e.calls,
           e.outcome.1,
         ) in
-        worked_so _ _ _ _ _ _ x z _ _ (worked_then _ _ _ _ _ _ x y z _ _ _ (worked_so _ _ _ _ 0 0 x y _ _ d size_for (omega arith) (λ t q. q)) known (λ t p. p.0) (λ a b failed le p q. record {
+        worked_so _ _ _ _ _ _ x z _ _ (worked_then _ _ _ _ _ _ x y z _ _ _ (worked_so _ _ _ _ 0 0 x y _ _ d size_for (omega arith) (λ t q. q)) (worked_changes _ _ _ y z _ known) (λ t p. p.0) (λ a b failed le p q. record {
+          calls = inr (far, then_none a b (Resize file to ∷ []) (ap (λ (l : Exchanges). changes_in l) p.1) q.1);
           content = λ c is n.
-              let o = q.0 c is (clear a b c n) in
-              record { now = record { size_is = is.size_is; tree = o.now }; agree = λ h. inr (uncounted a b failed le p.1 q.1 q.2, still (resized c to) (p.2 c h)); backed = λ h. o.backed (lasts x.held y.held c p.3 h) };
-          blame = tree_blame_on is_local file size count (block_count to) For stands stands x y z a b failed w far le tree_for q.1 (λ c is n. (is, λ h. lasts x.held y.held c p.3 h)) q.2;
+              let o = q.0.0 c is (clear a b c n) in
+              record { now = record { size_is = is.size_is; tree = o.now }; agree = λ h. inr (uncounted a b failed le p.1 q.0.1 q.0.2, still (resized c to) (p.2 c h)); backed = λ h. o.backed (lasts x.held y.held c p.3 h) };
+          blame = tree_blame_on is_local file size count (block_count to) For stands stands x y z a b failed w far le tree_for q.0.1 (λ c is n. (is, λ h. lasts x.held y.held c p.3 h)) q.0.2;
         })) (λ call q. q) (omega (arith, low)) (λ t q. q)
 
     pub was_cut : (v : Unit {0}) → Worked HandsPage 0 Tree (top (max count (block_count to))) y z (TreeOutcome file Tree stands stands2 y.held z.held (leaves_resized (block_count to) last) (Ok v)) →
         Worked HandsPage 1 For most x z (CutTreeOutcome is_local file size to last stands stands2 x.held z.held (Ok v))
     was_cut v e =
         let still = still_trees is_local file count (block_count to) (top (max count (block_count to))) y z _ e in
-        worked_so _ _ _ _ _ _ x z _ _ (worked_then _ _ _ _ _ _ x y z _ _ _ (worked_so _ _ _ _ 0 0 x y _ _ d size_for (omega arith) (λ t q. q)) (worked_so _ _ _ _ _ _ y z _ _ e tree_for low (λ t q. q)) (λ t p. p.0) (λ a b failed le p q. (q.0, λ c is n last_is. let o = q.1 (digests_of c) is.tree (clear a b c n) in record {
+        worked_so _ _ _ _ _ _ x z _ _ (worked_then _ _ _ _ _ _ x y z _ _ _ (worked_so _ _ _ _ 0 0 x y _ _ d size_for (omega arith) (λ t q. q)) (worked_changes _ _ _ y z _ (worked_so _ _ _ _ _ _ y z _ _ e tree_for low (λ t q. q))) (λ t p. p.0) (λ a b failed le p q. (q.0.0, then_none a b (Resize file to ∷ []) (ap (λ (l : Exchanges). changes_in l) p.1) q.1, λ c is n last_is. let o = q.0.1 (digests_of c) is.tree (clear a b c n) in record {
           now = record { size_is = sym (length-resized c to); tree = subst stands2.stands last_is o.now };
           agree = λ h. still (resized c to) (p.2 c h);
           backed = λ h. subst (stands2.backed z.held) last_is (o.backed (lasts x.held y.held c p.3 h));
@@ -153,7 +162,7 @@ module _ (is_local : Type 0) (file size to : ℕ) (other : to ≢ size) (stands 
   pub plain : (u : Unit {0}) (stands2 : Standing) (y : Told) → (size ≤ to) ⊎ (to % 4096 ≡ 0) →
       Worked HandsPage 1 (IsForCut is_local file size to) (top (block_count (max size to))) x y (CutTreeOutcome is_local file size to None stands stands2 x.held y.held (Ok u)) →
       Worked HandsPage 1 (IsForCut is_local file size to) (most_cut size to) x y (ChangeOutcome is_local file size to stands stands2 x.held y.held (Ok u))
-  plain u stands2 y so d = worked_so _ _ _ _ _ _ x y _ _ d (λ call q. q) low_cut (λ t q. (q.0, λ c is n. q.1 c is n (last_none c to (⊎_elim (λ grows. inl (omega (arith, grows, is.size_is))) (λ aligned. inr aligned) so))))
+  plain u stands2 y so d = worked_so _ _ _ _ _ _ x y _ _ d (λ call q. q) low_cut (λ t q. (q.0, q.1, λ c is n. q.2 c is n (last_none c to (⊎_elim (λ grows. inl (omega (arith, grows, is.size_is))) (λ aligned. inr aligned) so))))
 
   pub plain_bad : (w : WalkFault) (last : Option Digest) (stands2 : Standing) (y : Told) →
       Worked HandsPage 1 (IsForCut is_local file size to) (top (block_count (max size to))) x y (CutTreeOutcome is_local file size to last stands stands2 x.held y.held (Err w)) →
@@ -168,9 +177,10 @@ module _ (is_local : Type 0) (file size to : ℕ) (other : to ≢ size) (stands 
     pub no_digest : (w : WalkFault) (stands2 : Standing) (y : Told) →
         Worked HandsPage 0 (IsForBlock is_local file size (to / 4096)) (top (block_count size) + 1) x y (DigestOutcome is_local file size to (meaning size stands) (meaning size stands2) x.held y.held (Err w)) →
         Worked HandsPage 1 (IsForCut is_local file size to) (most_cut size to) x y (ChangeOutcome is_local file size to stands stands2 x.held y.held (Err w))
-    no_digest w stands2 y d = worked_more _ 0 1 _ _ x y _ (omega arith) (worked_so _ _ _ _ _ _ x y _ _ d block_for (omega (arith, low_digest)) (λ t q. record {
-      content = λ c is n. let k = q.kept c is n in record { now = k.now; agree = λ h. inl (k.agree h); backed = k.backed };
-      blame = blame_so is_local file _ _ (meaning size stands) Only (λ c. c) t w block_for x.held q.blame;
+    no_digest w stands2 y d = worked_more _ 0 1 _ _ x y _ (omega arith) (worked_so _ _ _ _ _ _ x y _ _ (worked_changes _ _ _ x y _ d) block_for (omega (arith, low_digest)) (λ t q. record {
+      calls = inl q.1;
+      content = λ c is n. let k = q.0.kept c is n in record { now = k.now; agree = λ h. inl (k.agree h); backed = k.backed };
+      blame = blame_so is_local file _ _ (meaning size stands) Only (λ c. c) t w block_for x.held q.0.blame;
     }))
 
     module _ (digest : Digest) (stands1 : Standing) (y : Told)
@@ -178,25 +188,30 @@ module _ (is_local : Type 0) (file size to : ℕ) (other : to ≢ size) (stands 
       clear2 : (a b : Exchanges) (c : List ℕ) → NoClash (IsFileHashed (Only c) (a ++ b)) → NoClash (IsFileHashed (Only c) b)
       clear2 a b c n = apart_fewer (IsFileHashed (Only c) b) (IsFileHashed (Only c) (a ++ b)) (file_hashed (Only c) (Only c) b (a ++ b) (λ v e. e) (piece_right a b)) n
 
+      calls_on : (a b : Exchanges) → changes_in a ≡ [] → CutsNone is_local file to b → CutsNone is_local file to (a ++ b)
+      calls_on a b none (inl is) = inl (none_then a b [] none is)
+      calls_on a b none (inr far) = inr (far.0, none_then a b (Resize file to ∷ []) none far.1)
+
       first : Worked HandsPage 0 (IsForCut is_local file size to) (top (block_count (max size to)) + 1) x y (DigestOutcome is_local file size to (meaning size stands) (meaning size stands1) x.held y.held (Ok digest))
       first = worked_so _ _ _ _ _ _ x y _ _ d block_for low_digest (λ t q. q)
 
       pub with_bad : (w : WalkFault) (last : Option Digest) → Worked HandsPage 1 (IsForCut is_local file size to) (top (block_count (max size to))) y z (CutTreeOutcome is_local file size to last stands1 stands2 y.held z.held (Err w)) →
           Worked HandsPage 1 (IsForCut is_local file size to) (most_cut size to) x z (ChangeOutcome is_local file size to stands stands2 x.held z.held (Err w))
-      with_bad w last e = worked_so _ _ _ _ _ _ x z _ _ (worked_then _ _ _ _ _ _ x y z _ _ _ first e (λ t p. p.0) (λ a b failed le p q. record {
+      with_bad w last e = worked_so _ _ _ _ _ _ x z _ _ (worked_then _ _ _ _ _ _ x y z _ _ _ (worked_changes _ _ _ x y _ first) e (λ t p. p.0.0) (λ a b failed le p q. record {
+        calls = calls_on a b p.1 q.calls;
         content = λ c is n.
-            let k = each_more (meaning size stands) Only Only a (a ++ b) _ (λ c v e. e) (piece_left a b) p.1 c is n in
+            let k = each_more (meaning size stands) Only Only a (a ++ b) _ (λ c v e. e) (piece_left a b) p.0.1 c is n in
             let l = q.content c k.0.now (clear2 a b c n) in
             record { now = l.now; agree = λ h. ⊎_elim (λ same. inl same) (λ u. inr (uncounted_on file (IsTreeTo is_local file size to) (IsTreeTo is_local file size to) (λ call q. q) x y z le is_local (Resize file to) (Resize file to) a b failed w refl u.0, u.1)) (l.agree (k.0.agree h)); backed = λ h. l.backed (k.0.backed h) };
         blame = blame_on is_local file (IsForCut is_local file size to) (IsForCut is_local file size to) (meaning size stands1) (meaning size stands) Only (λ c. c) x y z a b failed w le (λ call q. q)
-            (λ c is n. ((each_more (meaning size stands) Only Only a (a ++ b) _ (λ c v e. e) (piece_left a b) p.1 c is n).0.now, clear2 a b c n, (let k = (each_more (meaning size stands) Only Only a (a ++ b) _ (λ c v e. e) (piece_left a b) p.1 c is n).0 in λ h bk. (k.agree h, k.backed bk)))) q.blame;
+            (λ c is n. ((each_more (meaning size stands) Only Only a (a ++ b) _ (λ c v e. e) (piece_left a b) p.0.1 c is n).0.now, clear2 a b c n, (let k = (each_more (meaning size stands) Only Only a (a ++ b) _ (λ c v e. e) (piece_left a b) p.0.1 c is n).0 in λ h bk. (k.agree h, k.backed bk)))) q.blame;
       })) (λ call q. q) (omega arith) (λ t q. q)
 
       pub with_digest : (u : Unit {0}) → Worked HandsPage 1 (IsForCut is_local file size to) (top (block_count (max size to))) y z (CutTreeOutcome is_local file size to (Some digest) stands1 stands2 y.held z.held (Ok u)) →
           Worked HandsPage 1 (IsForCut is_local file size to) (most_cut size to) x z (ChangeOutcome is_local file size to stands stands2 x.held z.held (Ok u))
-      with_digest u e = worked_so _ _ _ _ _ _ x z _ _ (worked_then _ _ _ _ _ _ x y z _ _ _ first e (λ t p. p.0) (λ a b failed le p q. (q.0, λ c is n.
-          let k = each_more (meaning size stands) Only Only a (a ++ b) _ (λ c v e. e) (piece_left a b) p.1 c is n in
-          let l = q.1 c k.0.now (clear2 a b c n) (last_some c to digest inner k.1) in
+      with_digest u e = worked_so _ _ _ _ _ _ x z _ _ (worked_then _ _ _ _ _ _ x y z _ _ _ (worked_changes _ _ _ x y _ first) e (λ t p. p.0.0) (λ a b failed le p q. (q.0, none_then a b (Resize file to ∷ []) p.1 q.1, λ c is n.
+          let k = each_more (meaning size stands) Only Only a (a ++ b) _ (λ c v e. e) (piece_left a b) p.0.1 c is n in
+          let l = q.2 c k.0.now (clear2 a b c n) (last_some c to digest inner k.1) in
           record { now = l.now; agree = λ h. l.agree (k.0.agree h); backed = λ h. l.backed (k.0.backed h) }))) (λ call q. q) (omega arith) (λ t q. q)
 
 -- the answer
@@ -209,6 +224,7 @@ pub same_size : (is_local : Type 0) (file size to : ℕ) (stands : Standing) (x 
     Worked HandsPage 1 (IsForCut is_local file size to) (most_cut size to) x x (CutOutcome is_local file size to (meaning size stands) (meaning size stands) x.held x.held (Ok u))
 same_size is_local file size to stands x u same = worked_none _ _ _ _ x _ (record {
   failed = refl;
+  calls = inl (same, refl);
   content = λ c is n. subst (λ (v : List ℕ). IsNow (meaning size stands) (meaning size stands) file x.held x.held c v) (sym (resized_same c to (same ∙ is.size_is))) (record { now = is; agree = λ h. h; backed = λ h. h });
 })
 
@@ -228,10 +244,11 @@ module _ (is_local : Type 0) (file size to : ℕ) (first stands stands2 : Standi
       Worked HandsPage 1 (IsForCut is_local file size to) (most_cut size to) x y (CutOutcome is_local file size to (meaning size first) (meaning size stands2) x.held y.held (Err (because w)))
   cut_bad w d = worked_so _ _ _ _ _ _ x y _ _ d (λ call q. q) (omega arith) (λ t q.
       says_because (IsUncut is_local file size to (meaning size first) (meaning size stands2) x.held y.held t) _ _ w (record {
+        calls = q.calls;
         content = λ c is n. let o = q.content c (from c is).0 n in record { now = o.now; agree = o.agree; backed = λ bk. o.backed ((from c is).1 x.held bk) };
         blame = blame_from is_local file (IsForCut is_local file size to) (meaning size stands) (meaning size first) Only (λ c. c) t w from x.held q.blame;
       }))
 
   pub cut_good : (u : Unit {0}) → Worked HandsPage 1 (IsForCut is_local file size to) (most_cut size to) x y (ChangeOutcome is_local file size to stands stands2 x.held y.held (Ok u)) →
       Worked HandsPage 1 (IsForCut is_local file size to) (most_cut size to) x y (CutOutcome is_local file size to (meaning size first) (meaning to stands2) x.held y.held (Ok u))
-  cut_good u d = worked_so _ _ _ _ _ _ x y _ _ d (λ call q. q) (omega arith) (λ t q. record { failed = q.0; content = λ c is n. let o = q.1 c (from c is).0 n in record { now = o.now; agree = o.agree; backed = λ bk. o.backed ((from c is).1 x.held bk) } })
+  cut_good u d = worked_so _ _ _ _ _ _ x y _ _ d (λ call q. q) (omega arith) (λ t q. record { failed = q.0; calls = inr q.1; content = λ c is n. let o = q.2 c (from c is).0 n in record { now = o.now; agree = o.agree; backed = λ bk. o.backed ((from c is).1 x.held bk) } })

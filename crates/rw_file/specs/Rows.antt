@@ -17,7 +17,7 @@ use Rattle.rw_file.specs.declared.faults.RwFault.{RwFault}
 use Rattle.rw_file.specs.declared.faults.RwFault.TheVariants as fault
 use Rattle.rw_file.specs.declared.faults.Written.{Written}
 use Rattle.rw_file.specs.Contents.{Meaning, IsSame, IsAtHost, IsVersion, Only, version, next_border}
-use Rattle.rw_file.specs.Calls.{IsForFileRead, IsForFileWrite, IsForCut}
+use Rattle.rw_file.specs.Calls.{IsForFileRead, IsForFileWrite, IsForCut, changes_in, block_writes, WritesTo, CutsOnce, CutsNone}
 use Rattle.rw_file.specs.Blame.{Each, IsFileBlame}
 
 -- the fault of a request, from that of one of its parts
@@ -90,10 +90,12 @@ ReadOutcome is_local file size offset len before after x y bytes (Err e) t =
 -- all bytes are in place, and zeros between the old end and them; no call failed
 pub record IsWhole (file at : ℕ) (bytes : List ℕ) (before after : Meaning) (x y : Option Held) (t : Trace) : Type 0 where
   pub failed : t.failed ≡ 0
+  pub writes : changes_in t.own ≡ block_writes file at (length bytes) (length bytes)
   pub content : Each before (λ c. IsVersion c at bytes (length bytes)) t.own (λ c. IsNow before after file x y c (version c at bytes (length bytes)))
 
 -- the first n bytes are in place, and no more, for this cause
 pub record IsStopped (is_local : Type 0) (file size at : ℕ) (bytes : List ℕ) (n : ℕ) (before after : Meaning) (x y : Option Held) (t : Trace) (why : WalkFault) : Type 0 where
+  pub writes : WritesTo is_local file at (length bytes) n t.own
   pub content : Each before (λ c. IsVersion c at bytes n) t.own
       (λ c. IsNowOr (IsUncounted is_local file (IsTreeTo is_local file size (max size (at + length bytes))) (FileWrite file (at + n) (next_border at (length bytes) n - n)) t why) before after file x y c
       (version c at bytes n) (version c at bytes (next_border at (length bytes) n)))
@@ -138,18 +140,20 @@ size_after size at (Ok w) = size_with size at w.count
 size_after size at (Err e) = size
 
 -- the bytes are cut, or zeros are added; no call failed
-pub record IsResized (file to : ℕ) (before after : Meaning) (x y : Option Held) (t : Trace) : Type 0 where
+pub record IsResized (file size to : ℕ) (before after : Meaning) (x y : Option Held) (t : Trace) : Type 0 where
   pub failed : t.failed ≡ 0
+  pub calls : CutsOnce file size to t.own
   pub content : Each before Only t.own (λ c. IsNow before after file x y c (resized c to))
 
 -- nothing changed, for this cause
 pub record IsUncut (is_local : Type 0) (file size to : ℕ) (before after : Meaning) (x y : Option Held) (t : Trace) (why : WalkFault) : Type 0 where
+  pub calls : CutsNone is_local file to t.own
   pub content : Each before Only t.own (λ c. IsNowOr (IsUncounted is_local file (IsTreeTo is_local file size to) (Resize file to) t why) before after file x y c c (resized c to))
   pub blame : IsFileBlame is_local x file (IsForCut is_local file size to) before Only (λ c. c) t why
 
 -- what came of a new size
 abbrev pub CutOutcome : Type 0 → ℕ → ℕ → ℕ → Meaning → Meaning → Option Held → Option Held → Result (Unit {0}) RwFault → Trace → Type 0
-CutOutcome is_local file size to before after x y (Ok _) t = IsResized file to before after x y t
+CutOutcome is_local file size to before after x y (Ok _) t = IsResized file size to before after x y t
 CutOutcome is_local file size to before after x y (Err e) t =
     FaultSays (IsUncut is_local file size to before after x y t) (λ end. (end ≡ to) × IsTooLarge to end before after x y t) (IsRoomless before after t) e
 

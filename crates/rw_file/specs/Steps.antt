@@ -16,7 +16,7 @@ use Rattle.leaf_tree.specs.Outcomes.{IsTreeCall, Standing, SameTree}
 use Rattle.rw_file.specs.declared.faults.RwFault.{RwFault}
 use Rattle.rw_file.specs.declared.faults.Written.{Written}
 use Rattle.rw_file.specs.Contents.{Meaning, meaning, IsAtHost, IsVersion, Only, version, leaf_of, digests_of}
-use Rattle.rw_file.specs.Calls.{block_read, IsForFileWrite}
+use Rattle.rw_file.specs.Calls.{block_read, IsForFileWrite, changes_in, block_writes}
 use Rattle.rw_file.specs.Blame.{Each, IsFileBlame}
 use Rattle.rw_file.specs.Rows.{because, IsNow, IsUncounted, IsTreeTo, IsNowOr, IsKept, IsStopped, IsUncut}
 
@@ -113,18 +113,19 @@ with_leaf i d ds = if nat_lt i (length ds) then set ds i d else leaves_resized (
 
 -- bytes of one block were written, or nothing changed
 pub record IsBlockKept (is_local : Type 0) (file size at : ℕ) (part : List ℕ) (before after : Meaning) (x y : Option Held) (t : Trace) (why : WalkFault) : Type 0 where
+  pub writes : (changes_in t.own ≡ []) ⊎ ((is_local → ⊥) × (changes_in t.own ≡ FileWrite file at (length part) ∷ []))
   pub content : Each before Only t.own
       (λ c. IsNowOr (IsUncounted is_local file (IsTreeTo is_local file size (max size (at + length part))) (FileWrite file at (length part)) t why) before after file x y c c (over c at part))
   pub blame : IsFileBlame is_local x file (IsForFileWrite is_local file size at (length part)) before Only (λ c. c) t why
 
 abbrev pub BlockOutcome : Type 0 → ℕ → ℕ → ℕ → List ℕ → Standing → Standing → Option Held → Option Held → Result (Unit {0}) WalkFault → Trace → Type 0
 BlockOutcome is_local file size at part stands stands2 x y (Ok _) t =
-    (t.failed ≡ 0) × Each (meaning size stands) Only t.own (λ c. IsNow (meaning size stands) (meaning (max size (at + length part)) stands2) file x y c (over c at part))
+    (t.failed ≡ 0) × (changes_in t.own ≡ FileWrite file at (length part) ∷ []) × Each (meaning size stands) Only t.own (λ c. IsNow (meaning size stands) (meaning (max size (at + length part)) stands2) file x y c (over c at part))
 BlockOutcome is_local file size at part stands stands2 x y (Err why) t = IsBlockKept is_local file size at part (meaning size stands) (meaning size stands2) x y t why
 
 -- so many bytes of a write are in place
 abbrev pub IsPlacedTo : ℕ → ℕ → List ℕ → ℕ → Meaning → Meaning → Option Held → Option Held → Trace → Type 0
-IsPlacedTo file at bytes n before after x y t = (t.failed ≡ 0) × Each before (λ c. IsVersion c at bytes n) t.own (λ c. IsNow before after file x y c (version c at bytes n))
+IsPlacedTo file at bytes n before after x y t = (t.failed ≡ 0) × (changes_in t.own ≡ block_writes file at (length bytes) n) × Each before (λ c. IsVersion c at bytes n) t.own (λ c. IsNow before after file x y c (version c at bytes n))
 
 abbrev pub ProgressOutcome : Type 0 → ℕ → ℕ → ℕ → List ℕ → Meaning → Meaning → Option Held → Option Held → ℕ → Option WalkFault → Trace → Type 0
 ProgressOutcome is_local file size at bytes before after x y n None t = (n ≡ length bytes) × IsPlacedTo file at bytes n before after x y t
@@ -141,8 +142,8 @@ abbrev pub WriteOutOutcome : ℕ → ℕ → List ℕ → Option Held → Option
 WriteOutOutcome file at part x y (Ok _) t = (t.failed ≡ 0) × (t.own ≡ (FileWrite file at (length part), Done) ∷ []) × ((content : List ℕ) → IsAtHost x file content → IsAtHost y file (over content at part)) × SameTree file x y
 WriteOutOutcome file at part x y (Err (walk.Mismatch m)) t = ⊥
 WriteOutOutcome file at part x y (Err (walk.Short asked got)) t = ⊥
-WriteOutOutcome file at part x y (Err (walk.Failed faults)) t = AllStill file x y × IsFailed (IsThis (FileWrite file at (length part))) t faults
-WriteOutOutcome file at part x y (Err walk.Memory) t = AllStill file x y × IsScarce t
+WriteOutOutcome file at part x y (Err (walk.Failed faults)) t = AllStill file x y × IsFailed (IsThis (FileWrite file at (length part))) t faults × (t.own ≡ [])
+WriteOutOutcome file at part x y (Err walk.Memory) t = AllStill file x y × IsScarce t × (t.own ≡ [])
 
 -- how many calls ask for the page under a write: none where the block is new
 abbrev pub base_most : ℕ → ℕ → ℕ
@@ -157,8 +158,8 @@ abbrev pub ResizeOutcome : ℕ → ℕ → Option Held → Option Held → Resul
 ResizeOutcome file to x y (Ok _) t = (t.failed ≡ 0) × (t.own ≡ (Resize file to, Done) ∷ []) × ((content : List ℕ) → IsAtHost x file content → IsAtHost y file (resized content to)) × SameTree file x y
 ResizeOutcome file to x y (Err (walk.Mismatch m)) t = ⊥
 ResizeOutcome file to x y (Err (walk.Short asked got)) t = ⊥
-ResizeOutcome file to x y (Err (walk.Failed faults)) t = AllStill file x y × IsFailed (IsThis (Resize file to)) t faults
-ResizeOutcome file to x y (Err walk.Memory) t = AllStill file x y × IsScarce t
+ResizeOutcome file to x y (Err (walk.Failed faults)) t = AllStill file x y × IsFailed (IsThis (Resize file to)) t faults × (t.own ≡ [])
+ResizeOutcome file to x y (Err walk.Memory) t = AllStill file x y × IsScarce t × (t.own ≡ [])
 
 -- the digest that the last block has once the file is cut in it
 abbrev pub DigestOutcome : Type 0 → ℕ → ℕ → ℕ → Meaning → Meaning → Option Held → Option Held → Result Digest WalkFault → Trace → Type 0
@@ -171,7 +172,7 @@ FitsLast to last content = leaves_resized (block_count to) last (digests_of cont
 
 -- the file has its new size
 abbrev pub IsCut : ℕ → ℕ → ℕ → Option Digest → Standing → Standing → Option Held → Option Held → Trace → Type 0
-IsCut file size to last stands stands2 x y t = (t.failed ≡ 0) × Each (meaning size stands) Only t.own (λ c. FitsLast to last c → IsNow (meaning size stands) (meaning to stands2) file x y c (resized c to))
+IsCut file size to last stands stands2 x y t = (t.failed ≡ 0) × (changes_in t.own ≡ Resize file to ∷ []) × Each (meaning size stands) Only t.own (λ c. FitsLast to last c → IsNow (meaning size stands) (meaning to stands2) file x y c (resized c to))
 
 abbrev pub CutTreeOutcome : Type 0 → ℕ → ℕ → ℕ → Option Digest → Standing → Standing → Option Held → Option Held → Result (Unit {0}) WalkFault → Trace → Type 0
 CutTreeOutcome is_local file size to last stands stands2 x y (Ok _) t = IsCut file size to last stands stands2 x y t
@@ -179,5 +180,5 @@ CutTreeOutcome is_local file size to last stands stands2 x y (Err why) t = IsUnc
 
 -- what came of a new size, of another number of bytes
 abbrev pub ChangeOutcome : Type 0 → ℕ → ℕ → ℕ → Standing → Standing → Option Held → Option Held → Result (Unit {0}) WalkFault → Trace → Type 0
-ChangeOutcome is_local file size to stands stands2 x y (Ok _) t = (t.failed ≡ 0) × Each (meaning size stands) Only t.own (λ c. IsNow (meaning size stands) (meaning to stands2) file x y c (resized c to))
+ChangeOutcome is_local file size to stands stands2 x y (Ok _) t = (t.failed ≡ 0) × (changes_in t.own ≡ Resize file to ∷ []) × Each (meaning size stands) Only t.own (λ c. IsNow (meaning size stands) (meaning to stands2) file x y c (resized c to))
 ChangeOutcome is_local file size to stands stands2 x y (Err why) t = IsUncut is_local file size to (meaning size stands) (meaning size stands2) x y t why
