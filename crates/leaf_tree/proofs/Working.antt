@@ -1,8 +1,8 @@
 -- Work on a writable file, put together.
-use Rattle.std.proofs.Common.{◌≡◌, ℕ, ◌+◌, ◌≤◌, List, [], ◌∷◌, ◌++◌, Some, None, refl, sym, subst, arith}
+use Rattle.std.proofs.Common.{◌≡◌, ℕ, ◌+◌, ◌≤◌, List, [], ◌∷◌, ◌++◌, refl, sym, subst, arith}
 use Rattle.host_traits.specs.declared.calls.Call.{Call}
 use Rattle.host_traits.specs.declared.calls.Said.{Said}
-use Rattle.host_traits.specs.Told.{Told, Exchanges, Made, Answered, Refused, Unheard, heard_of, failures_of, kind_of, kind_bytes}
+use Rattle.host_traits.specs.Told.{Told, Exchanges, Made, Answered, Refused, Unheard, heard_of, failures_of, kind_of}
 use Rattle.host_traits.specs.Did.{IsIn, Each, Trace, trace_of}
 use Rattle.host_traits.proofs.Doing.{each_heard, each_both, each_so, stops_on}
 use Rattle.host_traits.proofs.Talking.{heard_of-append, failures_of-append, talked_not, talked_on}

@@ -5,7 +5,6 @@ use Rattle.std.proofs.lemmas.Bool.{ne_eqb, eq-eqb}
 use Rattle.std.proofs.lemmas.List.{length-take, length-drop}
 use Rattle.std.proofs.Math.Seq.{take-add}
 use Rattle.std.proofs.Math.Nat.{suc-mul, mul-le-mul_right}
-use Rattle.mg_base.specs.declared.values.Digest.{Digest}
 use Rattle.host_traits.specs.declared.calls.Call.{Call}
 use Rattle.host_traits.specs.declared.calls.Call.TheVariants.{FileWrite}
 use Rattle.host_traits.specs.Held.{over}
@@ -190,11 +189,15 @@ module _ (is_local : Type 0) (file size at len n m now : ℕ) (some : n < len) (
         let next : touched at (at + m) ≡ suc (touched at (at + n)) = touched_next at n m m_more border (omega (arith, m_is)) ∙ (let s : touched at (at + n) + 1 ≡ suc (touched at (at + n)) = omega arith in s) in
         let bound : touched at (at + m) * (top (block_count (max size (at + len))) + 1) ≡ touched at (at + n) * (top (block_count (max size (at + len))) + 1) + (top (block_count (max size (at + len))) + 1) =
         ap (λ (k : ℕ). k * (top (block_count (max size (at + len))) + 1)) next ∙ suc-mul (touched at (at + n)) (top (block_count (max size (at + len))) + 1) in
-        rw bound (worked_more _ (touched at (at + n) + 1) (touched at (at + m)) _ _ x z _ (omega (arith, next)) (worked_then _ _ _ _ _ _ x y z _ _ _ d (worked_so _ _ _ _ _ _ y z _ _ (inner part is long _ _ e2) calls_for each_low (λ t q. q)) (λ t p. p.0) (λ a b failed le p q. (q.0, more_writes a b (length part) long p.1 q.1, λ c ok apart.
-        let was = early a b m (omega (arith, m_more)) p c ok apart in
-        let now2 = q.2 (version c at bytes n) was.now (clear a b m (omega (arith, m_more)) c apart) in
-        subst (λ (v : List ℕ). IsNow (meaning size first) (meaning (max now (at + n + length part)) stands2) file x.held z.held c v) (part_is part is c)
-        (now_on (meaning size first) (meaning now stands) (meaning (max now (at + n + length part)) stands2) file x.held y.held z.held c (version c at bytes n) (over (version c at bytes n) (at + n) part) was now2)))))
+        rw bound (worked_more _ (touched at (at + n) + 1) (touched at (at + m)) _ _ x z _ (omega (arith, next)) (worked_then _ _ _ _ _ _ x y z _ _ _ d (worked_so _ _ _ _ _ _ y z _ _ (inner part is long _ _ e2) calls_for each_low (λ t q. q)) (λ t p. p.0) (λ a b failed le p q. (
+          q.0,
+          more_writes a b (length part) long p.1 q.1,
+          λ c ok apart.
+              let was = early a b m (omega (arith, m_more)) p c ok apart in
+              let now2 = q.2 (version c at bytes n) was.now (clear a b m (omega (arith, m_more)) c apart) in
+              subst (λ (v : List ℕ). IsNow (meaning size first) (meaning (max now (at + n + length part)) stands2) file x.held z.held c v) (part_is part is c)
+              (now_on (meaning size first) (meaning now stands) (meaning (max now (at + n + length part)) stands2) file x.held y.held z.held c (version c at bytes n) (over (version c at bytes n) (at + n) part) was now2),
+        ))))
 
     touched_low : touched at (at + m) ≤ touched at (at + len)
     touched_low = grind (arith, m_is, some, m_more)

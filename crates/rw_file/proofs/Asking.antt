@@ -1,5 +1,5 @@
 -- A call for the bytes that the file has in a block.
-use Rattle.std.proofs.Common.{◌≡◌, ℕ, ◌-◌, ◌*◌, ◌<◌, ◌≤◌, ◌∙◌, List, [], ◌∷◌, length, min, Ok, Err, refl, ap, sym, subst, inl, ⊎_elim, arith, Some, take, drop}
+use Rattle.std.proofs.Common.{◌≡◌, ℕ, ◌-◌, ◌*◌, ◌<◌, ◌≤◌, ◌∙◌, List, [], ◌∷◌, length, min, Ok, Err, refl, ap, sym, subst, inl, arith, take, drop}
 use Rattle.std.proofs.lemmas.List.{length-take, length-drop}
 use Rattle.host_traits.specs.declared.calls.Call.{Call}
 use Rattle.host_traits.specs.declared.calls.Call.TheVariants.{FileRead}

@@ -23,7 +23,7 @@ use Rattle.rw_file.specs.Contents.{Meaning, meaning, IsAtHost, IsContent, IsFile
 use Rattle.rw_file.specs.Calls.{block_read}
 use Rattle.rw_file.specs.Blame.{Each, IsFileBlame}
 use Rattle.rw_file.specs.Rows.{IsNow, IsKept}
-use Rattle.rw_file.specs.Steps.{Still, AllStill, IsThis, IsForBlock, AskBlame, AskOutcome, IsPrepared, PrepareOutcome, BringOutcome}
+use Rattle.rw_file.specs.Steps.{AllStill, IsThis, IsForBlock, AskBlame, AskOutcome, IsPrepared, PrepareOutcome, BringOutcome}
 use Rattle.rw_file.proofs.Holding.{still_trees}
 use Rattle.rw_file.proofs.Hashed.{apart_fewer, tree_hashed, file_hashed, kept_by, leaves_of, tree_mismatch, each_more}
 

@@ -1,5 +1,5 @@
 -- An honest host that has a file fails no call on it.
-use Rattle.std.proofs.Common.{true, ◌≡◌, ◌⊎◌, ℕ, ◌+◌, ◌-◌, ◌*◌, ◌^◌, ◌<◌, ◌≤◌, ◌∙◌, List, [], ◌∷◌, min, take, drop, Option, Some, None, refl, ap, sym, subst, arith, inl, inr, eq-eqb}
+use Rattle.std.proofs.Common.{true, ◌≡◌, ◌⊎◌, ℕ, ◌+◌, ◌-◌, ◌*◌, ◌∙◌, List, [], ◌∷◌, min, take, drop, Option, Some, None, refl, ap, sym, subst, arith, inl, inr, eq-eqb}
 use Rattle.std.specs.Prelude.{Bool, nat_eq}
 use Rattle.std.proofs.lemmas.Map.{update_same}
 use Rattle.host_traits.specs.declared.calls.Call.{Call}

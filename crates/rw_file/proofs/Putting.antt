@@ -8,7 +8,7 @@ use Rattle.host_traits.specs.declared.calls.Call.TheVariants.{FileWrite}
 use Rattle.host_traits.specs.declared.calls.Said.{Said}
 use Rattle.host_traits.specs.declared.calls.Said.TheVariants.{Done}
 use Rattle.host_traits.specs.Held.{over}
-use Rattle.host_traits.specs.Told.{Told, Exchanges, Answered, Refused, Unheard, heard_of, failures_of}
+use Rattle.host_traits.specs.Told.{Told, Exchanges, Answered, Refused, Unheard}
 use Rattle.host_traits.specs.Did.{Trace, trace_of, IsIn}
 use Rattle.leaf_tree.specs.Worked.{Worked, HandsPage}
 use Rattle.host_traits.proofs.Doing.{is_failed, failed_later, failed_so}
@@ -32,10 +32,9 @@ use Rattle.rw_file.proofs.Changing.{none_then, then_none, worked_changes}
 use Rattle.rw_file.proofs.Handing.{whole_hands, page_hands}
 use Rattle.rw_file.proofs.Uncounted.{fault_of}
 use Rattle.rw_file.proofs.Holding.{held_by, held_refused, held_unheard, written, written_tree, still_same, still_trees}
-use Rattle.rw_file.proofs.Hashed.{apart_fewer, tree_hashed, file_hashed, each_more}
+use Rattle.rw_file.proofs.Hashed.{apart_fewer, tree_hashed, each_more}
 use Rattle.rw_file.proofs.Bringing.{Lasts, tree_blame_on, blame_so}
 use Rattle.rw_file.proofs.Known.{is_known, is_other}
-use Rattle.rw_file.proofs.Serving.{blame_on}
 use Rattle.rw_file.proofs.Splicing.{fits_known, fits_fresh, fits_covered, with_leaf_digests, top-mono}
 
 -- calls for trees of sizes between these are calls for trees of sizes between wider ones
@@ -114,10 +113,13 @@ module _ (is_local : Type 0) (file size count at len : ℕ) (same : count ≡ bl
   pub base_covered : (u : Unit {0}) (anchor : Place) (page : List ℕ) → page ≡ replicate 4096 0 → at % 4096 ≡ 0 → min size (at + 4096) ≤ at + len →
       Worked HandsPage 0 (IsTreeCall is_local file (block_count size) (block_count size)) (top (block_count size)) x y (PrepareOutcome is_local file size index (meaning size stands) (meaning size stands2) x.held y.held (Ok anchor)) →
       Worked HandsPage 0 (IsForFileWrite is_local file size at len) (top (block_count size) + 1) x y (BaseOutcome is_local file size at len (meaning size stands) (meaning size stands2) x.held y.held page (Ok u))
-  base_covered u anchor page zeros begins covered d = worked_so _ _ _ _ _ _ x y _ _ d tree_for (omega arith) (λ t q. (q.failed, λ c is n. (
-    (q.kept c is n).0,
-    fits_covered page c at len one zeros begins (subst (λ (s : ℕ). min s (at + 4096) ≤ at + len) is.size_is covered),
-  )))
+  base_covered u anchor page zeros begins covered d = worked_so _ _ _ _ _ _ x y _ _ d tree_for (omega arith) (λ t q. (
+    q.failed,
+    λ c is n. (
+      (q.kept c is n).0,
+      fits_covered page c at len one zeros begins (subst (λ (s : ℕ). min s (at + 4096) ≤ at + len) is.size_is covered),
+    ),
+  ))
 
   module _ (there : index < count) (bare : (at % 4096 ≢ 0) ⊎ (at + len < min size (at + 4096))) where
     block_for : (call : Call) → IsForBlock is_local file size index call → IsForFileWrite is_local file size at len call
@@ -148,10 +150,13 @@ module _ (is_local : Type 0) (file size count at len : ℕ) (same : count ≡ bl
 
       pub base_known : (u : Unit {0}) → page ≡ padded raw → page_hash anchor.salt (padded raw) ≡ anchor.digest →
           Worked HandsPage 0 (IsForFileWrite is_local file size at len) (top (block_count size) + 1) x y (BaseOutcome is_local file size at len (meaning size stands) (meaning size stands2) x.held y.held page (Ok u))
-      base_known u is_page met = worked_so _ _ _ _ _ _ x y _ _ d block_for (omega arith) (λ t b. (b.prepared.failed, λ c is n. (
-        (b.prepared.kept c is n).0,
-        fits_known page c at len one (is_page ∙ is_known file size count index same there (meaning size stands) (meaning size stands2) (λ c is. is.size_is) x.held y.held raw anchor t b met c is n),
-      )))
+      base_known u is_page met = worked_so _ _ _ _ _ _ x y _ _ d block_for (omega arith) (λ t b. (
+        b.prepared.failed,
+        λ c is n. (
+          (b.prepared.kept c is n).0,
+          fits_known page c at len one (is_page ∙ is_known file size count index same there (meaning size stands) (meaning size stands2) (λ c is. is.size_is) x.held y.held raw anchor t b met c is n),
+        ),
+      ))
 
 -- the three together
 module _ (is_local : Type 0) (file size count at : ℕ) (part : List ℕ) (same : count ≡ block_count size) (some : 0 < length part) (one : at % 4096 + length part ≤ 4096) (stands stands1 : Standing) (x y : Told) where
@@ -292,15 +297,19 @@ module _ (is_local : Type 0) (file size count at : ℕ) (part : List ℕ) (same 
           Worked (Hands at part) 1 For most x w (BlockOutcome is_local file size at part stands stands2 x.held w.held (Ok k))
       put_all k new new_is hash f =
           let still = still_trees is_local file count (max count (i + 1)) (settle_most count i) z w _ f in
-          worked_so _ _ _ _ _ _ x w _ _ (worked_then _ _ _ _ _ _ x z w _ _ _ (ready v e) (lift _ z w _ (worked_changes _ _ _ z w _ (worked_so _ _ _ _ _ _ z w _ _ f settle_for (omega arith) (λ t q. q)))) (λ t p. p.0) (λ a b failed le p q. (q.0.0, then_none a b (FileWrite file at (length part) ∷ []) p.3 q.1, λ c is n.
-          let g = each_more (meaning size stands) Only Only a (a ++ b) _ (λ c v e. e) (piece_left a b) p.1 c is n in
-          let leaf : digest ≡ leaf_of (over c at part) i = ap (λ (bytes : List ℕ). let d : Digest = record { 0 = bytes } in d) (hash ∙ ap (page_hash []) (new_is ∙ g.1 part refl)) in
-          let o = q.0.1 (digests_of c) g.0.tree (clear a b c n) in
-          record {
-            now = record {
-              size_is = ap (λ (s : ℕ). max s end) is.size_is ∙ sym (length-over c at part);
-              tree = subst stands2.stands (with_leaf_digests c at part digest some one leaf) o.now;
-            };
-            agree = λ h. still (over c at part) (g.2 h);
-            backed = λ h. subst (stands2.backed w.held) (with_leaf_digests c at part digest some one leaf) (o.backed (g.3 h));
-          }))) (λ call q. q) all_low (λ t q. q)
+          worked_so _ _ _ _ _ _ x w _ _ (worked_then _ _ _ _ _ _ x z w _ _ _ (ready v e) (lift _ z w _ (worked_changes _ _ _ z w _ (worked_so _ _ _ _ _ _ z w _ _ f settle_for (omega arith) (λ t q. q)))) (λ t p. p.0) (λ a b failed le p q. (
+            q.0.0,
+            then_none a b (FileWrite file at (length part) ∷ []) p.3 q.1,
+            λ c is n.
+                let g = each_more (meaning size stands) Only Only a (a ++ b) _ (λ c v e. e) (piece_left a b) p.1 c is n in
+                let leaf : digest ≡ leaf_of (over c at part) i = ap (λ (bytes : List ℕ). let d : Digest = record { 0 = bytes } in d) (hash ∙ ap (page_hash []) (new_is ∙ g.1 part refl)) in
+                let o = q.0.1 (digests_of c) g.0.tree (clear a b c n) in
+                record {
+                  now = record {
+                    size_is = ap (λ (s : ℕ). max s end) is.size_is ∙ sym (length-over c at part);
+                    tree = subst stands2.stands (with_leaf_digests c at part digest some one leaf) o.now;
+                  };
+                  agree = λ h. still (over c at part) (g.2 h);
+                  backed = λ h. subst (stands2.backed w.held) (with_leaf_digests c at part digest some one leaf) (o.backed (g.3 h));
+                },
+          ))) (λ call q. q) all_low (λ t q. q)

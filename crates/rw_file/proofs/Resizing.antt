@@ -8,7 +8,7 @@ use Rattle.host_traits.specs.declared.calls.Call.TheVariants.{Resize}
 use Rattle.host_traits.specs.declared.calls.Said.{Said}
 use Rattle.host_traits.specs.declared.calls.Said.TheVariants.{Done}
 use Rattle.host_traits.specs.Held.{Held, resized}
-use Rattle.host_traits.specs.Told.{Told, Exchanges, Answered, Refused, Unheard, heard_of, failures_of}
+use Rattle.host_traits.specs.Told.{Told, Exchanges, Answered, Refused, Unheard}
 use Rattle.host_traits.specs.Did.{Trace, trace_of, IsIn}
 use Rattle.leaf_tree.specs.Worked.{Worked, HandsPage}
 use Rattle.host_traits.proofs.Doing.{is_failed, failed_so}
@@ -126,11 +126,15 @@ module _ (is_local : Type 0) (file size count to : ℕ) (last : Option Digest) (
         Worked HandsPage 1 For most x z (CutTreeOutcome is_local file size to last stands stands2 x.held z.held (Ok v))
     was_cut v e =
         let still = still_trees is_local file count (block_count to) (top (max count (block_count to))) y z _ e in
-        worked_so _ _ _ _ _ _ x z _ _ (worked_then _ _ _ _ _ _ x y z _ _ _ (worked_so _ _ _ _ 0 0 x y _ _ d size_for (omega arith) (λ t q. q)) (worked_changes _ _ _ y z _ (worked_so _ _ _ _ _ _ y z _ _ e tree_for low (λ t q. q))) (λ t p. p.0) (λ a b failed le p q. (q.0.0, then_none a b (Resize file to ∷ []) (ap (λ (l : Exchanges). changes_in l) p.1) q.1, λ c is n last_is. let o = q.0.1 (digests_of c) is.tree (clear a b c n) in record {
-          now = record { size_is = sym (length-resized c to); tree = subst stands2.stands last_is o.now };
-          agree = λ h. still (resized c to) (p.2 c h);
-          backed = λ h. subst (stands2.backed z.held) last_is (o.backed (lasts x.held y.held c p.3 h));
-        }))) (λ call q. q) (omega arith) (λ t q. q)
+        worked_so _ _ _ _ _ _ x z _ _ (worked_then _ _ _ _ _ _ x y z _ _ _ (worked_so _ _ _ _ 0 0 x y _ _ d size_for (omega arith) (λ t q. q)) (worked_changes _ _ _ y z _ (worked_so _ _ _ _ _ _ y z _ _ e tree_for low (λ t q. q))) (λ t p. p.0) (λ a b failed le p q. (
+          q.0.0,
+          then_none a b (Resize file to ∷ []) (ap (λ (l : Exchanges). changes_in l) p.1) q.1,
+          λ c is n last_is. let o = q.0.1 (digests_of c) is.tree (clear a b c n) in record {
+            now = record { size_is = sym (length-resized c to); tree = subst stands2.stands last_is o.now };
+            agree = λ h. still (resized c to) (p.2 c h);
+            backed = λ h. subst (stands2.backed z.held) last_is (o.backed (lasts x.held y.held c p.3 h));
+          },
+        ))) (λ call q. q) (omega arith) (λ t q. q)
 
 -- the digest of the block in which the file ends
 module _ (is_local : Type 0) (file size count to : ℕ) (same : count ≡ block_count size) (shorter : to < size) (stands stands2 : Standing) (x y : Told) (anchor : Place) (raw page : List ℕ)
@@ -147,9 +151,12 @@ module _ (is_local : Type 0) (file size count to : ℕ) (same : count ≡ block_
 
   pub digest_known : (new : List ℕ) (digest : Digest) → page ≡ padded raw → page_hash anchor.salt (padded raw) ≡ anchor.digest → new ≡ take (to % 4096) page ++ replicate (4096 - to % 4096) 0 → digest.0 ≡ page_hash [] new →
       Worked HandsPage 0 (IsForBlock is_local file size (to / 4096)) (top (block_count size) + 1) x y (DigestOutcome is_local file size to (meaning size stands) (meaning size stands2) x.held y.held (Ok digest))
-  digest_known new digest is_page met made hash = worked_so _ _ _ _ _ _ x y _ _ d (λ call q. q) (omega arith) (λ t b. (b.prepared.failed, λ c is n.
-      let known = is_page ∙ is_known file size count (to / 4096) same there (meaning size stands) (meaning size stands2) (λ c is. is.size_is) x.held y.held raw anchor t b met c is n in
-      ((b.prepared.kept c is n).0, ap (λ (bytes : List ℕ). let e : Digest = record { 0 = bytes } in e) (hash ∙ ap (page_hash []) (cut_block c to page new known made)))))
+  digest_known new digest is_page met made hash = worked_so _ _ _ _ _ _ x y _ _ d (λ call q. q) (omega arith) (λ t b. (
+    b.prepared.failed,
+    λ c is n.
+        let known = is_page ∙ is_known file size count (to / 4096) same there (meaning size stands) (meaning size stands2) (λ c is. is.size_is) x.held y.held raw anchor t b met c is n in
+        ((b.prepared.kept c is n).0, ap (λ (bytes : List ℕ). let e : Digest = record { 0 = bytes } in e) (hash ∙ ap (page_hash []) (cut_block c to page new known made))),
+  ))
 
 -- the digest and then the size
 module _ (is_local : Type 0) (file size to : ℕ) (other : to ≢ size) (stands : Standing) (x : Told) where
@@ -209,10 +216,14 @@ module _ (is_local : Type 0) (file size to : ℕ) (other : to ≢ size) (stands 
 
       pub with_digest : (u : Unit {0}) → Worked HandsPage 1 (IsForCut is_local file size to) (top (block_count (max size to))) y z (CutTreeOutcome is_local file size to (Some digest) stands1 stands2 y.held z.held (Ok u)) →
           Worked HandsPage 1 (IsForCut is_local file size to) (most_cut size to) x z (ChangeOutcome is_local file size to stands stands2 x.held z.held (Ok u))
-      with_digest u e = worked_so _ _ _ _ _ _ x z _ _ (worked_then _ _ _ _ _ _ x y z _ _ _ (worked_changes _ _ _ x y _ first) e (λ t p. p.0.0) (λ a b failed le p q. (q.0, none_then a b (Resize file to ∷ []) p.1 q.1, λ c is n.
-          let k = each_more (meaning size stands) Only Only a (a ++ b) _ (λ c v e. e) (piece_left a b) p.0.1 c is n in
-          let l = q.2 c k.0.now (clear2 a b c n) (last_some c to digest inner k.1) in
-          record { now = l.now; agree = λ h. l.agree (k.0.agree h); backed = λ h. l.backed (k.0.backed h) }))) (λ call q. q) (omega arith) (λ t q. q)
+      with_digest u e = worked_so _ _ _ _ _ _ x z _ _ (worked_then _ _ _ _ _ _ x y z _ _ _ (worked_changes _ _ _ x y _ first) e (λ t p. p.0.0) (λ a b failed le p q. (
+        q.0,
+        none_then a b (Resize file to ∷ []) p.1 q.1,
+        λ c is n.
+            let k = each_more (meaning size stands) Only Only a (a ++ b) _ (λ c v e. e) (piece_left a b) p.0.1 c is n in
+            let l = q.2 c k.0.now (clear2 a b c n) (last_some c to digest inner k.1) in
+            record { now = l.now; agree = λ h. l.agree (k.0.agree h); backed = λ h. l.backed (k.0.backed h) },
+      ))) (λ call q. q) (omega arith) (λ t q. q)
 
 -- the answer
 resized_same : (c : List ℕ) (to : ℕ) → to ≡ length c → resized c to ≡ c

@@ -1,12 +1,10 @@
 -- A call on a file's bytes that was answered and isn't counted.
-use Rattle.std.proofs.Common.{◌≡◌, ℕ, ◌≤◌, ◌∙◌, List, [], ◌∷◌, ◌++◌, refl, ap, append_assoc, Option}
-use Rattle.mg_base.specs.declared.values.Digest.{Digest}
+use Rattle.std.proofs.Common.{◌≡◌, ℕ, ◌≤◌, ◌∙◌, [], ◌∷◌, ◌++◌, refl, ap, Option}
 use Rattle.host_traits.specs.declared.calls.Call.{Call}
-use Rattle.host_traits.specs.declared.calls.Said.{Said}
 use Rattle.host_traits.specs.declared.calls.Said.TheVariants.{Done}
 use Rattle.host_traits.specs.Held.{Held}
 use Rattle.host_traits.specs.Told.{Told, Exchanges}
-use Rattle.host_traits.specs.Did.{IsIn, trace_of}
+use Rattle.host_traits.specs.Did.{trace_of}
 use Rattle.host_traits.proofs.Doing.{failed_later, failed_so}
 use Rattle.verity_path.specs.declared.walk.WalkFault.{WalkFault}
 use Rattle.verity_path.specs.declared.walk.WalkFault.TheVariants as walk

@@ -6,10 +6,13 @@ use Rattle.rw_leaves.proofs.leaves.LeavesLeafTree.resize.Goals as goal
 
 pub returns-clause-did : goal.returns-clause-did
 returns-clause-did g c =
-    worked_none _ _ _ _ _ _ (refl, λ ds is clash. record {
-      now = ap (resized c.args.blocks c.args.last) (is ∙ ap (λ (k : Kept). k.digests) (sym c.self.view_is)) ∙ sym c.in-Ok.ensures.ok;
-      backed = λ b. tt;
-    })
+    worked_none _ _ _ _ _ _ (
+      refl,
+      λ ds is clash. record {
+        now = ap (resized c.args.blocks c.args.last) (is ∙ ap (λ (k : Kept). k.digests) (sym c.self.view_is)) ∙ sym c.in-Ok.ensures.ok;
+        backed = λ b. tt;
+      },
+    )
 
 pub returns-in-Err-clause-did : goal.returns-in-Err-clause-did
 returns-in-Err-clause-did g c =
