@@ -295,21 +295,24 @@ module _ (disk : ℕ) (parts : Span × Span) (uuid secret : List ℕ) (k : Kept)
       opened_by kept is = record {
         writings = [];
         did = did_as _ _ 2 3 a c _ _ (two [] _ (MeasuredDone disk parts uuid secret old (record { image = k; entropy = entropy; items = new }) (Ok tt) []) e
-            (λ x y failed le p q s. (q.0, record {
-              image = k;
-              image_is = refl;
-              secret = secret;
-              secret_is = refl;
-              got = x;
-              measure = measure;
-              measured = p;
-              opened = y;
-              items = new;
-              boots = q.1;
-              put = [];
-              kept = unput_so s q.1.device.measure measure is;
-              cut = ap (λ (z : Exchanges). x ++ z) (sym (append-nil y));
-            })))
+            (λ x y failed le p q s. (
+              q.0,
+              record {
+                image = k;
+                image_is = refl;
+                secret = secret;
+                secret_is = refl;
+                got = x;
+                measure = measure;
+                measured = p;
+                opened = y;
+                items = new;
+                boots = q.1;
+                put = [];
+                kept = unput_so s q.1.device.measure measure is;
+                cut = ap (λ (z : Exchanges). x ++ z) (sym (append-nil y));
+              },
+            )))
             (λ call given g. g) (omega arith) (λ t p. p);
       } where
         unput_so : (s : Booted) (n : Measure) (g : Option Measure) → g ≡ Some kept

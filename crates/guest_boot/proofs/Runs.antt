@@ -153,14 +153,17 @@ module _ (a b c : Told) (y : Exchanges) (failed : ℕ) (le : a.faults ≤ b.faul
         → ((after ≡ s.writings) × (MeasureFails image secret uuid why (trace_of y failed b c) ⊎ OpeningFails disk parts image secret uuid why (trace_of y failed b c))) ⊎ KeepingFails s disk parts image secret uuid why after (trace_of y failed b c)
         → ((after ≡ s.writings) × (MeasureFails image secret uuid why (trace_of y failed a c) ⊎ OpeningFails disk parts image secret uuid why (trace_of y failed a c))) ⊎ KeepingFails s disk parts image secret uuid why after (trace_of y failed a c)
     record_later image secret (inl (same, inl h)) = inl (same, inl (measure_later a b c y failed le image secret uuid why h))
-    record_later image secret (inl (same, inr h)) = inl (same, inr (record {
-      got = h.got;
-      rest = h.rest;
-      cut = h.cut;
-      measure = h.measure;
-      measured = h.measured;
-      fails = device_later a b c h.rest failed le (opening disk parts.0 parts.1 h.measure) why h.fails;
-    }))
+    record_later image secret (inl (same, inr h)) = inl (
+      same,
+      inr (record {
+        got = h.got;
+        rest = h.rest;
+        cut = h.cut;
+        measure = h.measure;
+        measured = h.measured;
+        fails = device_later a b c h.rest failed le (opening disk parts.0 parts.1 h.measure) why h.fails;
+      }),
+    )
     record_later image secret (inr h) = inr (record {
       empty = h.empty;
       opened = h.opened;
@@ -272,7 +275,7 @@ module _ (means : Means) (lines : List PlanLine) (i : ℕ) (l : PlanLine) (lt : 
   goes_on new u e =
       subst (λ (front : List PlanLine). DidWriting (IsForLines lines) (most_so_far lines front) a c (SoFar means lines front new)) (sym (take_next lines i l lt is))
       (both _ _ (SoFar means lines (take i lines ++ l ∷ []) new) e few_next (λ x y failed le p q.
-        let one = q d.writings in (one.0, from_on (instance_in lines) means (state_of s means.secret d.writings) (state_of new means.secret (d.writings ++ e.writings)) (take i lines) l x y p one.1)))
+      let one = q d.writings in (one.0, from_on (instance_in lines) means (state_of s means.secret d.writings) (state_of new means.secret (d.writings ++ e.writings)) (take i lines) l x y p one.1)))
 
   pub stops : (numbers : List ℕ) (n : ℕ) (why : BootCause) (new : Boot) → slice_get numbers i ≡ Some n → DidWriting (IsForLine l) (most_in_place l) b c (LineDone means.secret s l new (Err why))
       → DidWriting (IsForLines lines) (most_of lines) a c (BootOutcome means lines numbers (Err (record { line = n; why = why })))

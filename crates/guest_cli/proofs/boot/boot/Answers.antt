@@ -31,13 +31,16 @@ returns-clause-booted g c =
     let d = c.in-Ok-open_lines.ensures.booted in
     record {
       writings = d.writings;
-      did = did_as _ _ _ _ _ _ _ _ d.did (λ call given x. x) (omega arith) (λ t h. rw c.new.ensures (h.0, record {
-        opened = record { items = c.in-Ok-open_lines.opened.items.items; files = c.in-Ok-open_lines.opened.files.items; image = c.in-Ok-open_lines.opened.image; left = c.in-Ok-open_lines.opened.entropy; writings = d.writings };
-        opens = record { tables = h.1; boots = h.2 };
-        written = refl;
-        setting = rw c.records_of-records.ensures refl;
-        state = rw (c.in-Ok-plant_lines.ensures, c.deref.ensures.value, c.records_of-records.ensures) refl;
-      }));
+      did = did_as _ _ _ _ _ _ _ _ d.did (λ call given x. x) (omega arith) (λ t h. rw c.new.ensures (
+        h.0,
+        record {
+          opened = record { items = c.in-Ok-open_lines.opened.items.items; files = c.in-Ok-open_lines.opened.files.items; image = c.in-Ok-open_lines.opened.image; left = c.in-Ok-open_lines.opened.entropy; writings = d.writings };
+          opens = record { tables = h.1; boots = h.2 };
+          written = refl;
+          setting = rw c.records_of-records.ensures refl;
+          state = rw (c.in-Ok-plant_lines.ensures, c.deref.ensures.value, c.records_of-records.ensures) refl;
+        },
+      ));
     }
 
 pub returns-in-Err-plant_lines-clause-booted : goal.returns-in-Err-plant_lines-clause-booted
