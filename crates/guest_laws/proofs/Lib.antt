@@ -25,3 +25,4 @@ mod ExampleImage
 pub mod Causes
 pub mod Lies
 pub mod Naming
+pub mod Measures

@@ -4,3 +4,4 @@ pub mod Seals
 pub mod Passing
 pub mod Lies
 pub mod Naming
+pub mod Measures

@@ -1,6 +1,7 @@
 // Laws of a boot and the reads behind it.
 ghost use Rattle.guest_laws.specs.Fitting.{ApkReadsAreServed};
 ghost use Rattle.guest_laws.specs.Passing.{BootsPass};
+ghost use Rattle.guest_laws.specs.Measures.{MeasuresWereSealed};
 ghost use Rattle.guest_laws.specs.Naming.{NamesStay};
 ghost use Rattle.guest_laws.specs.Lies.{ItemMismatchesLie, ReadMismatchesLie};
 ghost use Rattle.guest_laws.specs.Seals.{HonestHostsForgeNone, GetsCauseNone, InstancesHaveSecrets};
@@ -75,4 +76,10 @@ pub fn names_stay()
 /// is the law; it does nothing.
 pub fn instances_have_secrets()
     ensures { InstancesHaveSecrets }
+{}
+
+/// The measure that boot gets from a record is the text of one of some sealings, for the record's UUID, where no sealed form was heard
+/// for it but theirs. Its contract is the law; it does nothing.
+pub fn measures_were_sealed()
+    ensures { MeasuresWereSealed }
 {}

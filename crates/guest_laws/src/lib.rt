@@ -10,6 +10,6 @@ pub mod laws;
 
 pub use crate::laws::{
     apk_reads_are_served, boots_are_served, boots_pass, honest_hosts_cause_none,
-    honest_hosts_forge_none, instances_have_secrets, mismatches_lie, names_stay,
-    records_are_served, sessions_are_served,
+    honest_hosts_forge_none, instances_have_secrets, measures_were_sealed, mismatches_lie,
+    names_stay, records_are_served, sessions_are_served,
 };

@@ -67,14 +67,13 @@ pub data Request : Type 0 where
   get_of : (uuid : List ℕ) → Request
   put_of : (uuid text : List ℕ) → Request
 
--- the request of a frame of a channel: a UUID has 16 bytes, and the text of a put follows it. There is no fifth channel.
+-- the request of a frame of a channel, 0 to 3: a UUID has 16 bytes, and the text of a put follows it
 abbrev pub request_on : ℕ → List ℕ → Request
 request_on channel payload =
     if channel == 0 then message_of (decoded payload)
     else if channel == 1 then read_of (item_read payload)
     else if channel == 2 then get_of payload
-    else if channel == 3 then put_of (take 16 payload) (drop 16 payload)
-    else unbuilt
+    else put_of (take 16 payload) (drop 16 payload)
 
 -- the request of a frame
 abbrev pub request_of : Framed → Request
