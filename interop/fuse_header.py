@@ -3,13 +3,16 @@ has them; and what test_formats prints of messages whose every byte tells its pl
 import os
 
 from lib.frame import Skipped, check, printed, run, same, tool, write
-from lib.fuse import ERRNOS, OPERATIONS, STRUCTURES, answer, layout, request
+from lib.fuse import DT_DIR, DT_REG, ERRNOS, OPERATIONS, STRUCTURES, answer, dirent, layout, request
 
 HEADER = "/usr/include/linux/fuse.h"
+
+NAMES = (1, 7, 8, 9, 16, 17, 255)
 
 FRONT = """#include <stdio.h>
 #include <stddef.h>
 #include <errno.h>
+#include <dirent.h>
 #include <linux/fuse.h>
 #define AT(s, f) printf(#s " " #f " %zu %zu\\n", offsetof(struct s, f), sizeof(((struct s *)0)->f))
 int main(void) {
@@ -26,6 +29,8 @@ def source():
         lines += [f"AT({name}, {field});" for field in fields]
     lines += [f'printf("{word} opcode %d\\n", FUSE_{word.upper()});' for word in OPERATIONS]
     lines += [f'printf("{word} errno %d\\n", {word});' for word in ERRNOS]
+    lines += [f'printf("{word} %d\\n", {word});' for word in ("DT_DIR", "DT_REG")]
+    lines += [f'printf("entry {n} %zu\\n", (size_t)FUSE_DIRENT_ALIGN(FUSE_NAME_OFFSET + {n}));' for n in NAMES]
     return (FRONT + "\n".join(lines) + "\nreturn 0; }\n").encode()
 
 
@@ -38,6 +43,8 @@ def modelled():
         lines += [f"{name} {field} {at} {width}" for field, (at, width) in fields.items()]
     lines += [f"{word} opcode {it[0]}" for word, it in OPERATIONS.items()]
     lines += [f"{word} errno {number}" for word, number in ERRNOS.items()]
+    lines += [f"DT_DIR {DT_DIR}", f"DT_REG {DT_REG}"]
+    lines += [f"entry {n} {len(dirent(1, 1, DT_REG, bytes(n)))}" for n in NAMES]
     return [it for it in lines if not it.startswith("fuse_init_in size")]
 
 
@@ -59,6 +66,7 @@ def marked():
     yield "reply init 1 " + " ".join(str(it) for it in [0x01020304, 0x11121314, 0x21222324, 0x31323334, 0x4142, 0x5152, 0x61626364, 0x71727374])
     yield from (f"reply error 1 {number}" for number in ERRNOS.values())
     yield "reply statfs 1"
+    yield "reply names 1 0 131072 61 62/ 636465666768696a6b"
 
 
 def body():

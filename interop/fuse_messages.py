@@ -83,7 +83,15 @@ def replies():
     yield "init 1 7 31 131072 32 16 12 131072 1"
     yield "init 1 7 31 0 0 0 0 0 0"
     yield f"init {TOP64} {TOP32} {TOP32} {TOP32} {TOP32} 65535 65535 {TOP32} {TOP32}"
-    yield "names 7 010203"
+    yield "names 7 0 131072"
+    for size in (0, 31, 32, 63, 64, 65, 95, 96, 127, 128, 151, 152):
+        yield f"names 7 0 {size} 61 62/ {b'nine char'.hex()} 63"
+    for cookie in (1, 2, 3, 4, 5, 6, 7, TOP64):
+        yield f"names {cookie} {cookie} 131072 61 62/ {b'nine char'.hex()} 63"
+    for length in (1, 7, 8, 9, 15, 16, 17, 255):
+        yield f"names 7 2 {24 + -(-length // 8) * 8} {'ff' * length} 61"
+        yield f"names 7 2 {24 + -(-length // 8) * 8 - 1} {'ff' * length} 61"
+    yield "names 7 0 131072 2e2f 00 61ff"
 
 
 def table():
@@ -99,6 +107,10 @@ def stored():
 
 def drawn(draw):
     """A message of a drawn operation, right or with some of it spoiled; or a reply."""
+    if draw.random() < 0.05:
+        names = dict.fromkeys(draw.randbytes(draw.randint(1, 20)).hex() for _ in range(draw.randrange(6)))
+        names = [it + draw.choice(["", "", "/"]) for it in names]
+        return " ".join(["reply names", str(draw.randrange(2**64)), str(draw.randrange(8)), str(draw.randrange(300)), *names])
     if draw.random() < 0.2:
         big = [draw.randrange(2**draw.choice((1, 8, 16))) for _ in range(4)] + [draw.randrange(2**16) for _ in range(2)] + [draw.randrange(2**32)] * 2
         kind = draw.choice(["entry", "attr", "opened", "created", "written", "init"])
@@ -134,7 +146,8 @@ def body():
     lines = [drawn(draw) for _ in range(20_000)]
     lines.append("message " + request(16, put("fuse_write_in", fh=1, size=MOST) + bytes(MOST)).hex())
     lines.append("message " + request(16, put("fuse_write_in", fh=1, size=MOST + 1) + bytes(MOST + 1)).hex())
-    lines.append(f"reply names 7 {bytes(MOST).hex()}")
+    many = [f"{n:04x}" for n in range(4200)]
+    lines += [f"reply names 7 {cookie} {size} {' '.join(many)}" for cookie in (0, 1, 100, 4201) for size in (MOST, MOST - 1)]
     lines += table()
     same("what is printed", printed(lines).splitlines(), [answer(it) for it in lines])
 

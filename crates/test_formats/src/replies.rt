@@ -3,7 +3,8 @@ ghost use Rattle.std.specs.Prelude.{◌≡◌, ◌≤◌, length};
 
 use crate::words::bytes_of;
 use anyhow::{Result, bail};
-use fuse_codec::{Attr, EntryOut, FuseReply, InitOut, Listing};
+use authfs_dirs::{Dirs, Kind, Listing, ROOT};
+use fuse_codec::{Attr, EntryOut, FuseReply, InitOut};
 use mg_base::Errno;
 use std::alloc::Global;
 
@@ -81,12 +82,46 @@ fn init_of(numbers: &[u64]) -> Result<InitOut>
     })
 }
 
-fn listing_of(alloc: Global, word: &str) -> Result<Listing> {
-    let bytes = bytes_of(alloc, word)?;
-    if bytes.len() > 131_072 {
-        bail!("more than 131,072 bytes");
+// Puts a name into the root: of a directory where `/` stands behind it, else of a file.
+fn plant(alloc: Global, dirs: &mut Dirs, word: &str) -> Result<()> {
+    let (digits, kind) = match word.strip_suffix("/") {
+        Some(digits) => (digits, Kind::Dir { host: Some(1) }),
+        None => (word, Kind::ReadOnly { file: 1 }),
+    };
+    let name = bytes_of(alloc, digits)?;
+    let free = name.len() <= 255 && dirs.may_plant(name.as_slice());
+    if !free {
+        bail!("no name for an entry: {word}");
     }
-    Ok(Listing::new(bytes))
+    match dirs.plant(name.as_slice(), kind) {
+        Ok(_) => Ok(()),
+        Err(_) => bail!("out of memory"),
+    }
+}
+
+fn root_of(alloc: Global, words: &[&str]) -> Result<Dirs> {
+    let mut dirs = match Dirs::new(alloc) {
+        Ok(dirs) => dirs,
+        Err(_) => bail!("out of memory"),
+    };
+    for word in words {
+        plant(alloc, &mut dirs, *word)?;
+    }
+    Ok(dirs)
+}
+
+// What the root lists from behind a cookie, in at most so many bytes.
+fn listing_of(dirs: &Dirs, cookie: u64, size: u32) -> Result<Listing> {
+    let Some(kind) = dirs.kind(ROOT) else {
+        bail!("no root");
+    };
+    if !kind.is_dir() || size > 131_072 {
+        bail!("no listing of {size} bytes");
+    }
+    match dirs.list(ROOT, cookie, size) {
+        Ok(listing) => Ok(listing),
+        Err(_) => bail!("out of memory"),
+    }
 }
 
 // The numbers behind the kind of a reply; those that aren't given are 0.
@@ -141,13 +176,17 @@ fn reply_by(kind: &str, numbers: &[u64; 9]) -> Result<FuseReply> {
     Ok(reply)
 }
 
-/// The reply that the words `KIND UNIQUE FIELD..` describe. The bytes of `names` are in hexadecimal.
+/// The reply that the words `KIND UNIQUE FIELD..` describe. The names of `names` are in hexadecimal.
 pub fn reply_of(alloc: Global, words: &[&str]) -> Result<FuseReply> {
     match words {
-        ["names", unique, listing] => Ok(FuseReply::Names {
-            unique: unique.parse::<u64>()?,
-            listing: listing_of(alloc, *listing)?,
-        }),
+        ["names", unique, cookie, size, names @ ..] => {
+            let dirs = root_of(alloc, names)?;
+            let listing = listing_of(&dirs, cookie.parse::<u64>()?, size.parse::<u32>()?)?;
+            Ok(FuseReply::Names {
+                unique: unique.parse::<u64>()?,
+                listing,
+            })
+        }
         [kind, fields @ ..] => reply_by(*kind, &numbers_of(fields)?),
         [] => bail!("no kind of reply"),
     }
