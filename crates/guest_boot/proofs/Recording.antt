@@ -222,14 +222,13 @@ module _ (a b c : Told) (y : Exchanges) (failed : ℕ) (le : a.faults ≤ b.faul
   answered_later k secret uuid r h = record { failed = h.failed; part = h.part; has = h.has; bytes = h.bytes; own = h.own; makes = h.makes }
 
   get_later : (k : Kept) (secret uuid : List ℕ) (r : Result (List ℕ) GetFault) → GetOutcome k secret uuid r (trace_of y failed b c) → GetOutcome k secret uuid r (trace_of y failed a c)
-  get_later k secret uuid (Ok text) h = answered_later k secret uuid (Ok text) h
+  get_later k secret uuid (Ok said) h = answered_later k secret uuid (Ok said) h
   get_later k secret uuid (Err gets.NoRecord) h = h
   get_later k secret uuid (Err (gets.Failed faults)) h = (h.0, failed_later (IsGetCall k uuid) a b c [] y failed faults le h.1)
   get_later k secret uuid (Err (gets.Short asked got)) h = (answered_later k secret uuid (Err (gets.Short asked got)) h.0, short_later a b c [] y failed asked got h.1)
   get_later k secret uuid (Err (gets.Changed sector)) h = answered_later k secret uuid (Err (gets.Changed sector)) h
   get_later k secret uuid (Err (gets.Tag tag)) h = answered_later k secret uuid (Err (gets.Tag tag)) h
-  get_later k secret uuid (Err gets.Memory) (inl h) = inl (record { part = h.part; has = h.has; own = h.own; scarce = scarce_later a b c [] y failed h.scarce })
-  get_later k secret uuid (Err gets.Memory) (inr h) = inr (answered_later k secret uuid (Err gets.Memory) h)
+  get_later k secret uuid (Err gets.Memory) h = record { part = h.part; has = h.has; own = h.own; failed = h.failed }
 
   pub measure_later : (k : Kept) (secret uuid : List ℕ) (why : BootCause) → MeasureFails k secret uuid why (trace_of y failed b c) → MeasureFails k secret uuid why (trace_of y failed a c)
   measure_later k secret uuid (Get gets.NoRecord) h = (record { own = h.0.own; failed = h.0.failed }, h.1)
