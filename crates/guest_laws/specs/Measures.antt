@@ -14,8 +14,8 @@ pub record WasMeasured (sealings : List Sealing) (uuid : List ℕ) (m : Measure)
   pub uuid_is : sealing.uuid ≡ uuid
   pub says : IsMeasureText sealing.text m
 
--- Where no sealed form was heard for the record but those of these sealings, the measure by which the APK opens is that of one of
--- them, for the record's UUID.
+-- Where no sealed form was heard for the record but those of these sealings, the measure that it gives is that of one of them, for
+-- the record's UUID.
 abbrev pub MeasuresWereSealed : Type 0
 MeasuresWereSealed = (k : Kept) (secret uuid : List ℕ) (own : Exchanges) (m : Measure) (sealings : List Sealing)
     → GivesMeasure k secret uuid own m → OnlySealed k.salt secret sealings own → WasMeasured sealings uuid m
