@@ -5,10 +5,14 @@ use Rattle.authfs_dirs.specs.Names.{Names, lookup_check, looked_up, forgotten, p
 use Rattle.authfs_files.specs.Open.{closed}
 use Rattle.fuse_codec.specs.Message.{Asked, init, lookup, forget, batch_forget, interrupt, getattr, setattr, opening, opendir, read, write, flush, fsync, release, releasedir, readdir, create, mkdir, unlink, rmdir, statfs, destroy, Message, Bad}
 use Rattle.fuse_codec.specs.Reply.{Answer, refused, silent, empty, entry, attributes, opened, created, written, statfs_out, inited, bytes_out}
-use Rattle.fuse_server.specs.State.{State}
+use Rattle.fuse_server.specs.State.{State, Writables}
 
 abbrev pub with_names : State → Names → State
-with_names s names = record { ready = s.ready; names = names; open_handles = s.open_handles; given = s.given; files = s.files }
+with_names s names = record s { names = names }
+
+-- other files that the guest writes
+abbrev pub with_writables : State → Writables → State
+with_writables s files = record s { writables = files }
 
 -- one lookup more of the node that the name names
 abbrev pub counted : State → Result ℕ Errno → State
@@ -22,14 +26,14 @@ all_forgotten names (p ∷ pairs) = all_forgotten (forgotten names p.0 p.1) pair
 
 -- one handle more, of a node
 abbrev pub with_handle : State → ℕ → State
-with_handle s node = record { ready = s.ready; names = pinned s.names node; open_handles = s.open_handles ++ (s.given + 1, node) ∷ []; given = s.given + 1; files = s.files }
+with_handle s node = record s { names = pinned s.names node; open_handles = s.open_handles ++ (s.given + 1, node) ∷ []; given = s.given + 1 }
 
 abbrev pub without_handle : State → ℕ → ℕ → State
-without_handle s node fh = record { ready = s.ready; names = unpinned s.names node; open_handles = closed fh s.open_handles; given = s.given; files = s.files }
+without_handle s node fh = record s { names = unpinned s.names node; open_handles = closed fh s.open_handles }
 
 -- a major above 7 is told ours, and isn't initialised
 abbrev pub initialised : State → ℕ → State
-initialised s major = record { ready = (if nat_lt 7 major then s.ready else true); names = s.names; open_handles = s.open_handles; given = s.given; files = s.files }
+initialised s major = record s { ready = (if nat_lt 7 major then s.ready else true) }
 
 -- not initialised, no handle, no lookup; numbers go on
 pub record IsDestroyed (s new : State) : Type 0 where
@@ -38,10 +42,12 @@ pub record IsDestroyed (s new : State) : Type 0 where
   pub handles : new.open_handles ≡ []
   pub given : new.given ≡ s.given
   pub files : new.files ≡ s.files
+  pub writables : new.writables ≡ s.writables
 
--- what an operation changes, where its answer is no refusal
+-- What an operation changes, where its answer is no refusal. What a request on a writable file makes of it is said by its row.
 pub data Change : Type 0 where
   nothing : Change
+  rewrites : Change
   initialises : (major : ℕ) → Change
   counts : (name : List ℕ) → Change
   forgets : (nlookup : ℕ) → Change
@@ -57,13 +63,13 @@ change_of (forget n) = forgets n
 change_of (batch_forget pairs) = forgets_all pairs
 change_of interrupt = nothing
 change_of getattr = nothing
-change_of (setattr valid size) = nothing
+change_of (setattr valid size) = rewrites
 change_of (opening flags) = opens
 change_of opendir = opens
-change_of (read fh offset size) = nothing
-change_of (write fh offset bytes) = nothing
+change_of (read fh offset size) = rewrites
+change_of (write fh offset bytes) = rewrites
 change_of (flush fh) = nothing
-change_of (fsync fh) = nothing
+change_of (fsync fh) = rewrites
 change_of (release fh) = closes fh
 change_of (releasedir fh) = closes fh
 change_of (readdir fh offset size) = nothing
@@ -91,6 +97,7 @@ UnlessRefused old new E (bytes_out bytes) = E
 -- what a change makes of the state
 abbrev pub Changed : State → ℕ → Change → Answer → State → Type 0
 Changed s node nothing answer new = new ≡ s
+Changed s node rewrites answer new = new ≡ with_writables s new.writables
 Changed s node (initialises major) answer new = UnlessRefused s new (new ≡ initialised s major) answer
 Changed s node (counts name) answer new = UnlessRefused s new (new ≡ counted s (lookup_check s.names.nodes node name)) answer
 Changed s node (forgets n) answer new = UnlessRefused s new (new ≡ (if s.ready then with_names s (forgotten s.names node n) else s)) answer

@@ -1,6 +1,7 @@
 pub mod State
 pub mod Aims
 pub mod Effects
+pub mod FileRows
 pub mod Rows
 pub mod Parts
 pub mod Deeds

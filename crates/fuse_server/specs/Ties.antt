@@ -1,15 +1,13 @@
 -- What open handles and nodes say of one another, and the law that it stays so.
 use Rattle.std.specs.Prelude.{◌≡◌, ℕ, ◌+◌, ◌≤◌, ◌==◌, false, List, [], ◌∷◌, length, Option, Some, None, Result, if◌then◌else◌}
-use Rattle.host_traits.specs.Did.{Trace}
 use Rattle.verity_path.specs.declared.device.Cause.{Cause}
 use Rattle.authfs_dirs.specs.Names.{Node, Names, node_at}
 use Rattle.authfs_files.specs.Open.{AreRising}
 use Rattle.fuse_codec.specs.Message.{Message, Bad}
 use Rattle.fuse_codec.specs.Reply.{Answer}
-use Rattle.fuse_server.specs.State.{State, Files}
-use Rattle.fuse_server.specs.Aims.{aim_of}
-use Rattle.fuse_server.specs.Effects.{Next}
-use Rattle.fuse_server.specs.Rows.{FuseRow}
+use Rattle.fuse_server.specs.State.{State, Files, Writables}
+use Rattle.fuse_server.specs.FileRows.{Around}
+use Rattle.fuse_server.specs.Serving.{IsAnswered}
 
 -- how many of these handles are a node's
 abbrev pub handles_of : ℕ → List (ℕ × ℕ) → ℕ
@@ -30,10 +28,10 @@ pub record AreTied (s : State) : Type 0 where
 
 -- Law: where no node counts a handle, a new server is such.
 abbrev pub TiedAtFirst : Type 0
-TiedAtFirst = (names : Names) (files : Files) → ((n : ℕ) → pins_of (node_at names n) ≡ 0) →
-    AreTied (record { ready = false; names = names; open_handles = []; given = 0; files = files })
+TiedAtFirst = (names : Names) (files : Files) (writables : Writables) → ((n : ℕ) → pins_of (node_at names n) ≡ 0) →
+    AreTied (record { ready = false; names = names; open_handles = []; given = 0; files = files; writables = writables })
 
 -- Law: whatever is answered, it stays so.
 abbrev pub TiesStay : Type 0
-TiesStay = (s : State) (m : Result Message Bad) (t : Trace) (a : Answer) (c : Option Cause) (new : State) →
-    AreTied s → FuseRow (aim_of s m) t a c → Next s m a new → AreTied new
+TiesStay = (s : State) (m : Result Message Bad) (a : Around) (answer : Answer) (c : Option Cause) (new : State) →
+    AreTied s → IsAnswered s m a answer c new → AreTied new

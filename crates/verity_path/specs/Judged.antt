@@ -43,6 +43,7 @@ judged_by (cause.Short asked got) = 1
 judged_by (cause.Failed faults) = 0
 judged_by (cause.Tag found) = 1
 judged_by (cause.Changed sector) = 1
+judged_by cause.Memory = 0
 
 -- of some answers, those before the last so many are right
 pub record AreRightBefore (layout : Layout) (m : Measure) (own : Exchanges) (blamed : ℕ) : Type 0 where

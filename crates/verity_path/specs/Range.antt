@@ -68,10 +68,11 @@ RangeSoFar layout m offset end index bytes t =
     (t.failed ≡ 0) × IsCut t.own m offset (min end (max offset (4096 * index))) bytes
     × (asked_in t.own ≡ blocks_calls layout m (offset / 4096) (index - offset / 4096)) × AreRight layout m t.own t.own
 
--- the cause of a read that was not answered, in what was heard for it; a read of measured bytes has no tag and no header
+-- the cause of a read that was not answered, in what was heard for it; a read of measured bytes has no tag and no header, and doesn't end early
 abbrev pub IsReadBlame : Layout → Measure → (Call → Type 0) → Trace → Cause → Type 0
 IsReadBlame layout m IsFor t (cause.Mismatch x) = IsMismatch layout m t x
 IsReadBlame layout m IsFor t (cause.Short asked got) = IsLastShort t asked got
 IsReadBlame layout m IsFor t (cause.Failed faults) = IsFailed IsFor t faults
 IsReadBlame layout m IsFor t (cause.Tag found) = ⊥
 IsReadBlame layout m IsFor t (cause.Changed sector) = ⊥
+IsReadBlame layout m IsFor t cause.Memory = ⊥

@@ -25,6 +25,8 @@ pub enum Cause {
     Tag { found: [u8; 16] },
     /// The record at this sector of an image has another header than when the image was opened.
     Changed { sector: u64 },
+    /// Memory was wanted: the cause of a write that ended early.
+    Memory,
 }
 
 /// A measured device at the host: whole blocks of 4096 bytes, and where they and their tree stand.
