@@ -11,7 +11,7 @@ use Rattle.verity_path.specs.Holding.{HoldsAt, WhereHeld}
 use Rattle.ro_file.specs.Files.{MeasuredFile, layout_of}
 use Rattle.fuse_codec.specs.Message.{Message, Bad}
 use Rattle.fuse_codec.specs.Reply.{refused, bytes_out}
-use Rattle.fuse_server.specs.Aims.{Aim, says, makes, reads, aim_of, number_of}
+use Rattle.fuse_server.specs.Aims.{Aim, says, makes, reads, loads, writes, cuts, syncs, aim_of, number_of}
 use Rattle.instance_image.specs.declared.faults.GetFault.{GetFault}
 use Rattle.instance_image.specs.declared.faults.PutFault.{PutFault}
 use Rattle.instance_image.specs.declared.values.Part.{Part}
@@ -55,7 +55,7 @@ ReadsAreServed = (g : Setting) (world : World) (old : Moment) (turn : Turn) (new
     → IsWorld g old.state world new.heard → old.told.held ≡ Some h → HoldsDevice h it content
     → IsCalm old turn → IsDefined r content new.told.scarce turn.sent turn.cause × (new.told.held ≡ Some h)
 
--- The same of a READ of a read-only file, which its checks let through: of all messages a READ alone asks the host for anything.
+-- The same of a READ of a read-only file, which its checks let through.
 abbrev pub FileReadsAreServed : Type 0
 FileReadsAreServed = (g : Setting) (world : World) (old : Moment) (turn : Turn) (new : Moment) (h : Held) (m : Result Message Bad)
     (n : ℕ) (f : MeasuredFile) (offset size : ℕ) (c : Salted)
@@ -72,12 +72,16 @@ abbrev pub ItemIsServed : Setting → Told → Told → ItemRead → Sent → Op
 ItemIsServed g old new r sent cause = (it : Device) → slice_get g.items r.item ≡ Some it
     → WhereHeld it.layout it.measure old new (λ content. size_of it ≡ length content → IsDefined r content new.scarce sent cause)
 
--- the same of a READ of a read-only file that its checks let through: of all messages a READ alone asks the host for anything
+-- the same of a READ of a read-only file that its checks let through; of a request on a writable file the laws of its bytes speak
 abbrev pub MessageIsServed : Result Aim Errno → ℕ → Told → Told → Sent → Option Cause → Type 0
 MessageIsServed (Ok (reads f offset size)) unique old new sent cause =
     WhereHeld (layout_of f) f.measure old new (λ content. IsReadDefined unique offset size content new.scarce sent cause)
 MessageIsServed (Ok (says a)) unique old new sent cause = Unit {0}
 MessageIsServed (Ok (makes a)) unique old new sent cause = Unit {0}
+MessageIsServed (Ok (loads number f offset size)) unique old new sent cause = Unit {0}
+MessageIsServed (Ok (writes number f offset bytes)) unique old new sent cause = Unit {0}
+MessageIsServed (Ok (cuts number f node size)) unique old new sent cause = Unit {0}
+MessageIsServed (Ok (syncs number f)) unique old new sent cause = Unit {0}
 MessageIsServed (Err e) unique old new sent cause = Unit {0}
 
 -- A get came to what `RecordIsGot` says: where the host held the record of the UUID, and no call failed or it is honest, to its

@@ -5,3 +5,4 @@ pub mod RecordRow
 pub mod Step
 pub mod Run
 pub mod Faithful
+pub mod Written

@@ -5,12 +5,13 @@ use Rattle.std.specs.Io.KnownBytes.{Appends}
 use Rattle.hex.specs.Hex.{encode_lower}
 use Rattle.host_traits.specs.Told.{Told, Exchanges, Made, Talked, heard_of, heard_size}
 use Rattle.session_frames.specs.Frames.{Framed, frame}
-use Rattle.session_frames.specs.Replies.{reply_frame}
+use Rattle.fuse_codec.specs.Reply.{written}
+use Rattle.session_frames.specs.Replies.{Sent, sent_answer, reply_frame}
 use Rattle.sha_tree.specs.Measured.{IsMeasured}
 use Rattle.sha_tree.specs.Path.{IsInput, NoClash}
 use Rattle.verity_path.specs.Pieces.{IsSeen}
 use Rattle.verity_path.specs.declared.device.Cause.{Cause}
-use Rattle.verity_path.specs.declared.device.Cause.TheVariants.{Mismatch, Short, Failed, Tag, Changed}
+use Rattle.verity_path.specs.declared.device.Cause.TheVariants.{Mismatch, Short, Failed, Tag, Changed, Memory}
 use Rattle.verity_path.specs.declared.device.Device.{Device}
 use Rattle.verity_descriptor.specs.Spelling.{descriptor_bytes}
 use Rattle.ro_file.specs.Files.{MeasuredFile}
@@ -108,11 +109,18 @@ cause_words (Short asked got) = codes " short " ++ decimal asked ++ space ++ dec
 cause_words (Failed faults) = codes " failed " ++ decimal faults
 cause_words (Tag found) = codes " tag " ++ encode_lower found
 cause_words (Changed sector) = codes " changed " ++ decimal sector
+cause_words Memory = codes " memory"
 
--- the line of a frame that begins at this offset of the stream: one where its reply has a cause, else none
-abbrev pub log_line : ℕ → Option Cause → List ℕ
-log_line at None = []
-log_line at (Some cause) = codes "eio " ++ decimal at ++ cause_words cause ++ line_feed
+-- how the line of a reply with a cause begins, for a frame that begins at this offset of the stream: that of a WRITE which ended early
+-- has the count of its bytes
+abbrev pub log_head : ℕ → Sent → List ℕ
+log_head at (sent_answer unique (written count)) = codes "short " ++ decimal at ++ space ++ decimal count
+log_head at sent = codes "eio " ++ decimal at
+
+-- the line of a frame: one where its reply has a cause, else none
+abbrev pub log_line : ℕ → Sent → Option Cause → List ℕ
+log_line at sent None = []
+log_line at sent (Some cause) = log_head at sent ++ cause_words cause ++ line_feed
 
 abbrev pub frame_size : Framed → ℕ
 frame_size f = length (frame f.channel f.payload)
@@ -120,7 +128,7 @@ frame_size f = length (frame f.channel f.payload)
 -- the lines of frames of which the first begins at this offset
 abbrev pub log_bytes : ℕ → List Turn → List ℕ
 log_bytes at [] = []
-log_bytes at (t ∷ turns) = log_line at t.cause ++ log_bytes (at + frame_size t.frame) turns
+log_bytes at (t ∷ turns) = log_line at t.sent t.cause ++ log_bytes (at + frame_size t.frame) turns
 
 -- all calls of some turns
 abbrev pub calls_of : List Turn → List Made

@@ -1,0 +1,166 @@
+-- The bytes of the writable files in a run: what each request makes of them, and what is read.
+use Rattle.std.specs.Prelude.{◌≡◌, ◌⊎◌, ℕ, List, [], ◌∷◌, length, take, drop, Option, Some, None, Result, Ok, Err, ◌==◌, if◌then◌else◌}
+use Rattle.mg_base.specs.declared.errno.Errno.{Errno}
+use Rattle.mg_base.specs.declared.errno.Errno.TheVariants.{Enomem}
+use Rattle.host_traits.specs.Held.{Held, resized}
+use Rattle.host_traits.specs.Told.{Exchanges, heard_of}
+use Rattle.sha_tree.specs.Path.{NoClash}
+use Rattle.session_frames.specs.Replies.{Sent, sent_answer, message_sent}
+use Rattle.verity_path.specs.declared.device.Cause.{Cause}
+use Rattle.verity_path.specs.declared.device.Cause.TheVariants.{Memory}
+use Rattle.rw_file.specs.Contents.{version, IsVersion, IsFileHashed, IsAtHost, Only}
+use Rattle.fuse_codec.specs.Message.{Message, Bad}
+use Rattle.fuse_codec.specs.Reply.{Answer, silent, refused, empty, attributes, written, bytes_out}
+use Rattle.fuse_server.specs.State.{State as Fuse, WritableFile, Writables, writable_at, attr_of_size}
+use Rattle.fuse_server.specs.Aims.{Aim, says, makes, reads, loads, writes, cuts, syncs, aim_of, number_of}
+use Rattle.fuse_server.specs.FileRows.{meaning_of}
+use Rattle.fuse_server.specs.Serving.{AreNumbered}
+use Rattle.guest_rules.specs.Machine.{Setting, World, State, Moment, Turn, Request, message_of, read_of, get_of, put_of, request_of}
+use Rattle.guest_rules.specs.Step.{Step}
+use Rattle.guest_rules.specs.Run.{Run}
+use Rattle.guest_rules.specs.Faithful.{IsCalm}
+
+-- the bytes of each writable file, by its number
+abbrev pub FileBytes : Type 0
+FileBytes = ℕ → List ℕ
+
+-- each writable file stands for its bytes: it has their size, and the digests of their blocks
+abbrev pub StandFor : Writables → FileBytes → Type 0
+StandFor files bytes = (number : ℕ) (f : WritableFile) → writable_at files number ≡ Some f → (meaning_of f).is (bytes number)
+
+-- with these in the place of the bytes of one
+abbrev pub put_at : FileBytes → ℕ → List ℕ → FileBytes
+put_at bytes number b n = if n == number then b else bytes n
+
+-- how many bytes were written, by the answer
+abbrev pub count_of : Answer → ℕ
+count_of (written count) = count
+count_of other = 0
+
+abbrev pub cut_to : FileBytes → ℕ → ℕ → Answer → FileBytes
+cut_to bytes number size (attributes attr) = put_at bytes number (resized (bytes number) size)
+cut_to bytes number size other = bytes
+
+-- What a message makes of the bytes, by its answer: a WRITE puts as many in place as it is answered, with zeros between the old end
+-- and them; another size cuts them or adds zeros.
+abbrev pub bytes_by : Result Aim Errno → Answer → FileBytes → FileBytes
+bytes_by (Ok (writes number f offset new)) answer bytes = put_at bytes number (version (bytes number) offset new (count_of answer))
+bytes_by (Ok (cuts number f node size)) answer bytes = cut_to bytes number size answer
+bytes_by (Ok (says x)) answer bytes = bytes
+bytes_by (Ok (makes x)) answer bytes = bytes
+bytes_by (Ok (reads f offset size)) answer bytes = bytes
+bytes_by (Ok (loads number f offset size)) answer bytes = bytes
+bytes_by (Ok (syncs number f)) answer bytes = bytes
+bytes_by (Err e) answer bytes = bytes
+
+-- the answer of a reply to a message
+abbrev pub answer_in : Sent → Answer
+answer_in (sent_answer unique answer) = answer
+answer_in other = silent
+
+-- what a turn makes of the bytes
+abbrev pub request_bytes : Fuse → Request → Sent → FileBytes → FileBytes
+request_bytes s (message_of m) sent bytes = bytes_by (aim_of s m) (answer_in sent) bytes
+request_bytes s (read_of r) sent bytes = bytes
+request_bytes s (get_of uuid) sent bytes = bytes
+request_bytes s (put_of uuid text) sent bytes = bytes
+
+abbrev pub bytes_after : State → Turn → FileBytes → FileBytes
+bytes_after s turn bytes = request_bytes s.fuse (request_of turn.frame) turn.sent bytes
+
+-- ---- what is hashed
+
+-- the versions that a message makes of the bytes of a file: those at first, and of a WRITE those after each block that was done
+abbrev pub IsVersionBy : Result Aim Errno → Answer → FileBytes → List ℕ → Type 0
+IsVersionBy (Ok (loads number f offset size)) answer bytes v = Only (bytes number) v
+IsVersionBy (Ok (writes number f offset new)) answer bytes v = IsVersion (bytes number) offset new (count_of answer) v
+IsVersionBy (Ok (cuts number f node size)) answer bytes v = Only (bytes number) v
+IsVersionBy (Ok (syncs number f)) answer bytes v = Only (bytes number) v
+IsVersionBy (Ok (says x)) answer bytes v = ⊥
+IsVersionBy (Ok (makes x)) answer bytes v = ⊥
+IsVersionBy (Ok (reads f offset size)) answer bytes v = ⊥
+IsVersionBy (Err e) answer bytes v = ⊥
+
+abbrev pub IsRequestVersion : Fuse → Request → Sent → FileBytes → List ℕ → Type 0
+IsRequestVersion s (message_of m) sent bytes v = IsVersionBy (aim_of s m) (answer_in sent) bytes v
+IsRequestVersion s (read_of r) sent bytes v = ⊥
+IsRequestVersion s (get_of uuid) sent bytes v = ⊥
+IsRequestVersion s (put_of uuid text) sent bytes v = ⊥
+
+-- No two different ones of what is hashed for a turn's writable file share a digest: the pages of its versions, those of files of
+-- zeros, and the pieces that were heard in the turn, without a salt.
+abbrev pub IsClear : State → Turn → FileBytes → Type 0
+IsClear s turn bytes = NoClash (IsFileHashed (IsRequestVersion s.fuse (request_of turn.frame) turn.sent bytes) (heard_of turn.own))
+
+-- the premise on digests: it is so of each turn
+abbrev pub AreClear : (g : Setting) (world : World) (old : Moment) (turns : List Turn) (new : Moment) → Run g world old turns new → FileBytes → Type 0
+AreClear g world old [] new run bytes = Unit {0}
+AreClear g world old (turn ∷ turns) new run bytes = IsClear old.state turn bytes × AreClear g world run.0 turns new run.3 (bytes_after old.state turn bytes)
+
+-- ---- what is read
+
+-- bytes that are answered to a READ of a writable file are its own, from offset on, cut at their end
+abbrev pub IsSliceBy : Result Aim Errno → Answer → FileBytes → Type 0
+IsSliceBy (Ok (loads number f offset size)) (bytes_out b) bytes = b ≡ take size (drop offset (bytes number))
+IsSliceBy aim answer bytes = Unit {0}
+
+abbrev pub IsRequestRead : Fuse → Request → Sent → FileBytes → Type 0
+IsRequestRead s (message_of m) sent bytes = IsSliceBy (aim_of s m) (answer_in sent) bytes
+IsRequestRead s (read_of r) sent bytes = Unit {0}
+IsRequestRead s (get_of uuid) sent bytes = Unit {0}
+IsRequestRead s (put_of uuid text) sent bytes = Unit {0}
+
+abbrev pub IsRead : State → Turn → FileBytes → Type 0
+IsRead s turn bytes = IsRequestRead s.fuse (request_of turn.frame) turn.sent bytes
+
+-- each READ of a writable file has its bytes, as the requests before it left them; and each file stands for its bytes at the end
+abbrev pub AreRead : (g : Setting) (world : World) (old : Moment) (turns : List Turn) (new : Moment) → Run g world old turns new → FileBytes → Type 0
+AreRead g world old [] new run bytes = StandFor new.state.fuse.writables bytes
+AreRead g world old (turn ∷ turns) new run bytes = IsRead old.state turn bytes × AreRead g world run.0 turns new run.3 (bytes_after old.state turn bytes)
+
+-- Law: what is read of a writable file in a run, whatever the host answered, is what was last written with success: its bytes at
+-- first, changed by the counts and the sizes that were answered since.
+abbrev pub WritesAreRead : Type 0
+WritesAreRead = (g : Setting) (world : World) (old : Moment) (turns : List Turn) (new : Moment) (run : Run g world old turns new) (bytes : FileBytes)
+    → StandFor old.state.fuse.writables bytes → AreClear g world old turns new run bytes → AreRead g world old turns new run bytes
+
+-- ---- over a host that holds them
+
+-- the host holds the bytes of each writable file
+abbrev pub Agree : Option Held → Writables → FileBytes → Type 0
+Agree held files bytes = (number : ℕ) (f : WritableFile) → writable_at files number ≡ Some f → IsAtHost held f.file (bytes number)
+
+-- Law: over a host that holds the bytes of the writable files, each request leaves it so, whatever fails: what the host holds of a
+-- file is what was written with success.
+abbrev pub HostsAgree : Type 0
+HostsAgree = (g : Setting) (world : World) (old : Moment) (turn : Turn) (new : Moment) (bytes : FileBytes)
+    → Step g world old turn new → AreNumbered old.state.fuse.writables → StandFor old.state.fuse.writables bytes → IsClear old.state turn bytes
+    → Agree old.told.held old.state.fuse.writables bytes → Agree new.told.held new.state.fuse.writables (bytes_after old.state turn bytes)
+
+-- the defined answer to a request on a writable file, with its cause: a WRITE may be cut short by want of memory, and each may be
+-- answered so
+pub data IsWriteDefined (bytes : FileBytes) : Result Aim Errno → Answer → Option Cause → Type 0 where
+  loaded : (number : ℕ) (f : WritableFile) (offset size : ℕ) → IsWriteDefined bytes (Ok (loads number f offset size)) (bytes_out (take size (drop offset (bytes number)))) None
+  wrote : (number : ℕ) (f : WritableFile) (offset : ℕ) (new : List ℕ) → IsWriteDefined bytes (Ok (writes number f offset new)) (written (length new)) None
+  ended_early : (number : ℕ) (f : WritableFile) (offset : ℕ) (new : List ℕ) (count : ℕ) → IsWriteDefined bytes (Ok (writes number f offset new)) (written count) (Some Memory)
+  cut : (number : ℕ) (f : WritableFile) (node size : ℕ) → IsWriteDefined bytes (Ok (cuts number f node size)) (attributes (attr_of_size node size)) None
+  synced : (number : ℕ) (f : WritableFile) → IsWriteDefined bytes (Ok (syncs number f)) empty None
+  no_memory : (aim : Result Aim Errno) → IsWriteDefined bytes aim (refused Enomem) None
+
+-- a request on a writable file
+abbrev pub IsOnWritable : Result Aim Errno → Type 0
+IsOnWritable (Ok (loads number f offset size)) = Unit {0}
+IsOnWritable (Ok (writes number f offset new)) = Unit {0}
+IsOnWritable (Ok (cuts number f node size)) = Unit {0}
+IsOnWritable (Ok (syncs number f)) = Unit {0}
+IsOnWritable (Ok (says x)) = ⊥
+IsOnWritable (Ok (makes x)) = ⊥
+IsOnWritable (Ok (reads f offset size)) = ⊥
+IsOnWritable (Err e) = ⊥
+
+-- Law: over a host that holds a file's bytes, where no call failed or it is honest, a request on the file has its defined answer.
+abbrev pub WritesAreServed : Type 0
+WritesAreServed = (g : Setting) (world : World) (old : Moment) (turn : Turn) (new : Moment) (bytes : FileBytes) (m : Result Message Bad)
+    → Step g world old turn new → request_of turn.frame ≡ message_of m → IsOnWritable (aim_of old.state.fuse m)
+    → StandFor old.state.fuse.writables bytes → IsClear old.state turn bytes → Agree old.told.held old.state.fuse.writables bytes → IsCalm old turn
+    → (answer : Answer) × (turn.sent ≡ message_sent (number_of m) answer) × IsWriteDefined bytes (aim_of old.state.fuse m) answer turn.cause
