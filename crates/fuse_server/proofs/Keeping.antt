@@ -1,8 +1,7 @@
--- No message changes the files, and a READ that is let through is of one of them.
-use Rattle.std.proofs.Common.{◌≡◌, ◌%◌, if◌then◌else◌, ℕ, Bool, true, false, not, Option, Some, None, Result, Ok, Err, refl}
-use Rattle.std.specs.Prelude.{◌==◌}
+-- No message changes the read-only files, and work that is let through is of a file that is there.
+use Rattle.std.proofs.Common.{◌≡◌, ◌+◌, if◌then◌else◌, ℕ, Bool, true, false, not, List, [], ◌∷◌, length, Option, Some, None, Result, Ok, Err, refl, subst}
 use Rattle.mg_base.specs.declared.errno.Errno.{Errno}
-use Rattle.mg_base.specs.declared.errno.Errno.TheVariants.{Eacces, Enospc, Enosys, Eproto}
+use Rattle.mg_base.specs.declared.errno.Errno.TheVariants.{Eacces, Efbig, Eisdir, Enospc, Enosys, Eproto}
 use Rattle.ro_file.specs.Files.{MeasuredFile}
 use Rattle.authfs_dirs.specs.declared.kind.Kind.{Kind}
 use Rattle.authfs_dirs.specs.declared.kind.Kind.TheVariants.{Dir, ReadOnly, Writable}
@@ -11,9 +10,9 @@ use Rattle.authfs_files.specs.Open.{may_open}
 use Rattle.fuse_codec.specs.Message.{Asked, init, lookup, forget, batch_forget, interrupt, getattr, setattr, opening, opendir, read, write, flush, fsync, release, releasedir, readdir, create, mkdir, unlink, rmdir, statfs, destroy, Message, Bad, quiet, bad_length, bad_opcode, bad_sizes}
 use Rattle.fuse_codec.specs.Reply as reply
 use Rattle.fuse_codec.specs.Reply.{Answer}
-use Rattle.fuse_server.specs.State.{State, Files, file_at, as_file, attr_of, live, live_file, live_dir, held}
-use Rattle.fuse_server.specs.Aims.{Aim, says, makes, reads, is_old, init_aim, lookup_aim, getattr_aim, setattr_aim, size_refusal, asks_size, open_aim, opendir_aim, read_aim, write_aim, handled_aim, releasedir_aim, readdir_aim, add_aim, remove_aim, statfs_aim, ready_aim, message_aim, aim_of}
-use Rattle.fuse_server.specs.Effects.{Change, nothing, initialises, counts, forgets, forgets_all, opens, closes, destroys, change_of, Changed, UnlessRefused, counted}
+use Rattle.fuse_server.specs.State.{State, WritableFile, Behind, measured, written, file_at, writable_at, as_file, attr_of, live, live_file, live_dir, held}
+use Rattle.fuse_server.specs.Aims.{Aim, says, makes, reads, loads, writes, cuts, syncs, is_old, init_aim, lookup_aim, getattr_aim, setattr_aim, cut_of, size_aim, set_attr, asks_size, may_reach, may_be_opened, read_of, write_at, write_of, sync_of, open_aim, opendir_aim, read_aim, write_aim, handled_aim, fsync_aim, releasedir_aim, readdir_aim, add_aim, remove_aim, statfs_aim, ready_aim, message_aim, aim_of}
+use Rattle.fuse_server.specs.Effects.{Change, nothing, rewrites, initialises, counts, forgets, forgets_all, opens, closes, destroys, change_of, Changed, UnlessRefused, counted}
 use Rattle.fuse_server.specs.Serving.{FilesStay}
 
 -- ---- the files stay
@@ -42,6 +41,7 @@ module _ (s new : State) where
 
   changed : (node : ℕ) (change : Change) (a : Answer) → Changed s node change a new → new.files ≡ s.files
   changed node nothing a u = rw u refl
+  changed node rewrites a u = rw u refl
   changed node (initialises major) a u = unless _ a u (λ e. rw e refl)
   changed node (counts name) a u = unless _ a u (looked s new (lookup_check s.names.nodes node name))
   changed node (forgets n) a u = unless _ a u (λ e. same_if s new _ s.ready e refl)
@@ -54,85 +54,122 @@ pub files_stay : FilesStay
 files_stay s (Ok m) a new u = changed s new m.node (change_of m.asked) a u
 files_stay s (Err bad) a new u = rw u refl
 
--- ---- a READ is of a file
+-- ---- work on a file is of one that is there
 
--- where it aims at a read, that is of one of these files
-abbrev OfFiles : Files → Result Aim Errno → Type 0
-OfFiles files (Ok (reads f offset size)) = (n : ℕ) × (file_at files n ≡ Some f)
-OfFiles files (Ok (says a)) = Unit {0}
-OfFiles files (Ok (makes a)) = Unit {0}
-OfFiles files (Err e) = Unit {0}
+-- where it aims at work on a file, that is one of these files
+abbrev pub OfFiles : State → Result Aim Errno → Type 0
+OfFiles s (Err e) = Unit {0}
+OfFiles s (Ok (says a)) = Unit {0}
+OfFiles s (Ok (makes a)) = Unit {0}
+OfFiles s (Ok (reads f offset size)) = (n : ℕ) × (file_at s.files n ≡ Some f)
+OfFiles s (Ok (loads n f offset size)) = writable_at s.writables n ≡ Some f
+OfFiles s (Ok (writes n f offset bytes)) = writable_at s.writables n ≡ Some f
+OfFiles s (Ok (cuts n f node size)) = writable_at s.writables n ≡ Some f
+OfFiles s (Ok (syncs n f)) = writable_at s.writables n ≡ Some f
 
-bind_of : {A : Type 0} (files : Files) (r : Result A Errno) (f : A → Result Aim Errno) → ((x : A) → r ≡ Ok x → OfFiles files (f x)) → OfFiles files (r >>= f)
-bind_of files (Ok x) f g = g x refl
-bind_of files (Err e) f g = tt
+abbrev IsThere : State → Behind → Type 0
+IsThere s (measured f) = (n : ℕ) × (file_at s.files n ≡ Some f)
+IsThere s (written n f) = writable_at s.writables n ≡ Some f
+
+bind_of : {A : Type 0} (s : State) (r : Result A Errno) (f : A → Result Aim Errno) → ((x : A) → r ≡ Ok x → OfFiles s (f x)) → OfFiles s (r >>= f)
+bind_of s (Ok x) f g = g x refl
+bind_of s (Err e) f g = tt
 
 ok_is : {A : Type 0} (x y : A) → ◌≡◌ {A = Result A Errno} (Ok x) (Ok y) → x ≡ y
 ok_is x y same = cc
 
-found_is : (files : Files) (n : ℕ) (f : MeasuredFile) (o : Option MeasuredFile) → file_at files n ≡ o → found o Enosys ≡ Ok f → (k : ℕ) × (file_at files k ≡ Some f)
-found_is files n f (Some x) at e = (n, rw (ok_is x f e) at at)
-found_is files n f None at e = absurd cc
+measured_is : (s : State) (n : ℕ) (b : Behind) (o : Option MeasuredFile) → file_at s.files n ≡ o → (found o Enosys >>= λ f. Ok (measured f)) ≡ Ok b → IsThere s b
+measured_is s n b (Some x) at e = subst (IsThere s) (ok_is (measured x) b e) (n, at)
+measured_is s n b None at e = absurd cc
 
-as_is : (files : Files) (kind : Kind) (f : MeasuredFile) → as_file files kind ≡ Ok f → (k : ℕ) × (file_at files k ≡ Some f)
-as_is files (Dir host) f e = absurd cc
-as_is files (ReadOnly n) f e = found_is files n f (file_at files n) refl e
-as_is files (Writable n) f e = absurd cc
+written_is : (s : State) (n : ℕ) (b : Behind) (o : Option WritableFile) → writable_at s.writables n ≡ o → (found o Enosys >>= λ f. Ok (written n f)) ≡ Ok b → IsThere s b
+written_is s n b (Some x) at e = subst (IsThere s) (ok_is (written n x) b e) at
+written_is s n b None at e = absurd cc
 
-live_is : (s : State) (f : MeasuredFile) (r : Result Kind Errno) → (r >>= λ kind. as_file s.files kind) ≡ Ok f → (k : ℕ) × (file_at s.files k ≡ Some f)
-live_is s f (Ok kind) e = as_is s.files kind f e
-live_is s f (Err x) e = absurd cc
+as_is : (s : State) (kind : Kind) (b : Behind) → as_file s kind ≡ Ok b → IsThere s b
+as_is s (Dir host) b e = absurd cc
+as_is s (ReadOnly n) b e = measured_is s n b (file_at s.files n) refl e
+as_is s (Writable n) b e = written_is s n b (writable_at s.writables n) refl e
+
+live_is : (s : State) (b : Behind) (r : Result Kind Errno) → (r >>= λ kind. as_file s kind) ≡ Ok b → IsThere s b
+live_is s b (Ok kind) e = as_is s kind b e
+live_is s b (Err x) e = absurd cc
 
 module _ (s : State) where
-  set_of : (n : ℕ) (kind : Kind) (b : Bool) → OfFiles s.files (getattr_aim s n) → OfFiles s.files (if b then Err (size_refusal kind) else getattr_aim s n)
-  set_of n kind true k = tt
-  set_of n kind false k = k
-
-  getattr_of : (n : ℕ) → OfFiles s.files (getattr_aim s n)
+  getattr_of : (n : ℕ) → OfFiles s (getattr_aim s n)
   unfolding getattr_aim
-  getattr_of n = bind_of s.files (live s n) _ (λ kind e. bind_of s.files (attr_of s.files n kind) _ (λ attr g. tt))
+  getattr_of n = bind_of s (live s n) _ (λ kind e. bind_of s (attr_of s n kind) _ (λ attr g. tt))
+
+  cut_by : (n node size : ℕ) (o : Option WritableFile) → writable_at s.writables n ≡ o → OfFiles s (found o Enosys >>= λ f. cut_of n node size f)
+  cut_by n node size (Some f) at = bind_of s (needs (may_reach size) Efbig) _ (λ u g. at)
+  cut_by n node size None at = tt
+
+  size_of : (node size : ℕ) (kind : Kind) → OfFiles s (size_aim s node size kind)
+  size_of node size (Dir host) = tt
+  size_of node size (ReadOnly n) = tt
+  size_of node size (Writable n) = cut_by n node size (writable_at s.writables n) refl
+
+  set_of : (n size : ℕ) (kind : Kind) (b : Bool) → OfFiles s (if b then size_aim s n size kind else getattr_aim s n)
+  set_of n size kind true = size_of n size kind
+  set_of n size kind false = getattr_of n
+
+  read_is : (b : Behind) (offset size : ℕ) → IsThere s b → OfFiles s (Ok (read_of b offset size))
+  read_is (measured f) offset size at = at
+  read_is (written n f) offset size at = at
+
+  put_is : (n : ℕ) (f : WritableFile) (offset : ℕ) (bytes : List ℕ) → writable_at s.writables n ≡ Some f → OfFiles s (write_at n f offset bytes)
+  put_is n f offset [] at = tt
+  put_is n f offset (b ∷ bytes) at = bind_of s (needs (may_reach (offset + length (b ∷ bytes))) Efbig) _ (λ u g. at)
+
+  write_is : (b : Behind) (offset : ℕ) (bytes : List ℕ) → IsThere s b → OfFiles s (write_of b offset bytes)
+  write_is (measured f) offset bytes at = tt
+  write_is (written n f) offset bytes at = put_is n f offset bytes at
+
+  sync_is : (b : Behind) → IsThere s b → OfFiles s (Ok (sync_of b))
+  sync_is (measured f) at = tt
+  sync_is (written n f) at = at
 
   -- behind the checks of a file and of a handle
-  held_of : (n fh : ℕ) (rest : MeasuredFile → Result Aim Errno) → ((f : MeasuredFile) → live_file s n ≡ Ok f → OfFiles s.files (rest f))
-      → OfFiles s.files (live_file s n >>= λ f. held s fh n >>= λ u. rest f)
-  held_of n fh rest so = bind_of s.files (live_file s n) _ (λ f e. bind_of s.files (held s fh n) _ (λ u g. so f e))
+  held_of : (n fh : ℕ) (rest : Behind → Result Aim Errno) → ((b : Behind) → IsThere s b → OfFiles s (rest b))
+      → OfFiles s (live_file s n >>= λ b. held s fh n >>= λ u. rest b)
+  held_of n fh rest so = bind_of s (live_file s n) _ (λ b e. bind_of s (held s fh n) _ (λ u g. so b (live_is s b (live s n) e)))
 
-  init_of : (a b c e : ℕ) → OfFiles s.files (init_aim s a b c e)
+  init_of : (a b c e : ℕ) → OfFiles s (init_aim s a b c e)
   unfolding init_aim
-  init_of a b c e = bind_of s.files (needs (not s.ready) Eproto) _ (λ u f. bind_of s.files (needs (not (is_old a b)) Eproto) _ (λ v g. tt))
+  init_of a b c e = bind_of s (needs (not s.ready) Eproto) _ (λ u f. bind_of s (needs (not (is_old a b)) Eproto) _ (λ v g. tt))
 
-  ready_of : (n : ℕ) (asked : Asked) → OfFiles s.files (ready_aim s n asked)
-  unfolding ready_aim lookup_aim setattr_aim open_aim opendir_aim read_aim write_aim handled_aim releasedir_aim readdir_aim add_aim remove_aim statfs_aim
+  ready_of : (n : ℕ) (asked : Asked) → OfFiles s (ready_aim s n asked)
+  unfolding ready_aim lookup_aim setattr_aim open_aim opendir_aim read_aim write_aim handled_aim fsync_aim releasedir_aim readdir_aim add_aim remove_aim statfs_aim
   ready_of n (init a b c e) = init_of a b c e
   ready_of n (forget k) = tt
   ready_of n (batch_forget pairs) = tt
   ready_of n interrupt = tt
-  ready_of n opendir = bind_of s.files (live_dir s n) _ (λ u e. bind_of s.files (needs (may_open s.open_handles s.given) Enospc) _ (λ v g. tt))
-  ready_of n (releasedir fh) = bind_of s.files (live_dir s n) _ (λ u e. bind_of s.files (held s fh n) _ (λ v g. tt))
-  ready_of n (readdir fh offset size) = bind_of s.files (live_dir s n) _ (λ u e. bind_of s.files (held s fh n) _ (λ v g. tt))
-  ready_of n (lookup name) = bind_of s.files (lookup_check s.names.nodes n name) _
-      (λ node e. bind_of s.files (live s node) _ (λ kind f. bind_of s.files (attr_of s.files node kind) _ (λ attr g. tt)))
+  ready_of n opendir = bind_of s (live_dir s n) _ (λ u e. bind_of s (needs (may_open s.open_handles s.given) Enospc) _ (λ v g. tt))
+  ready_of n (releasedir fh) = bind_of s (live_dir s n) _ (λ u e. bind_of s (held s fh n) _ (λ v g. tt))
+  ready_of n (readdir fh offset size) = bind_of s (live_dir s n) _ (λ u e. bind_of s (held s fh n) _ (λ v g. tt))
+  ready_of n (lookup name) = bind_of s (lookup_check s.names.nodes n name) _
+      (λ node e. bind_of s (live s node) _ (λ kind f. bind_of s (attr_of s node kind) _ (λ attr g. tt)))
   ready_of n getattr = getattr_of n
-  ready_of n (setattr valid size) = bind_of s.files (live s n) _ (λ kind e. set_of n kind (asks_size valid) (getattr_of n))
-  ready_of n (opening flags) = bind_of s.files (live_file s n) _
-      (λ f e. bind_of s.files (needs (flags % 4 == 0) Eacces) _ (λ u g. bind_of s.files (needs (may_open s.open_handles s.given) Enospc) _ (λ v h. tt)))
-  ready_of n (read fh offset size) = held_of n fh (λ f. Ok (reads f offset size)) (λ f e. live_is s f (live s n) e)
-  ready_of n (write fh offset bytes) = held_of n fh (λ f. Err Eacces) (λ f e. tt)
-  ready_of n (flush fh) = held_of n fh (λ f. Ok (says reply.empty)) (λ f e. tt)
-  ready_of n (fsync fh) = held_of n fh (λ f. Ok (says reply.empty)) (λ f e. tt)
-  ready_of n (release fh) = held_of n fh (λ f. Ok (says reply.empty)) (λ f e. tt)
-  ready_of n (create name) = bind_of s.files (may_add s.names n name) _ (λ host e. tt)
-  ready_of n (mkdir name) = bind_of s.files (may_add s.names n name) _ (λ host e. tt)
-  ready_of n (unlink name) = bind_of s.files (may_remove s.names.nodes n name false) _ (λ host e. tt)
-  ready_of n (rmdir name) = bind_of s.files (may_remove s.names.nodes n name true) _ (λ host e. tt)
-  ready_of n statfs = bind_of s.files (live s n) _ (λ kind e. tt)
+  ready_of n (setattr valid size) = bind_of s (live s n) _ (λ kind e. set_of n size kind (asks_size valid))
+  ready_of n (opening flags) = bind_of s (live_file s n) _
+      (λ b e. bind_of s (needs (may_be_opened b flags) Eacces) _ (λ u g. bind_of s (needs (may_open s.open_handles s.given) Enospc) _ (λ v h. tt)))
+  ready_of n (read fh offset size) = held_of n fh (λ b. Ok (read_of b offset size)) (λ b at. read_is b offset size at)
+  ready_of n (write fh offset bytes) = held_of n fh (λ b. write_of b offset bytes) (λ b at. write_is b offset bytes at)
+  ready_of n (flush fh) = held_of n fh (λ b. Ok (says reply.empty)) (λ b at. tt)
+  ready_of n (fsync fh) = held_of n fh (λ b. Ok (sync_of b)) sync_is
+  ready_of n (release fh) = held_of n fh (λ b. Ok (says reply.empty)) (λ b at. tt)
+  ready_of n (create name) = bind_of s (may_add s.names n name) _ (λ host e. tt)
+  ready_of n (mkdir name) = bind_of s (may_add s.names n name) _ (λ host e. tt)
+  ready_of n (unlink name) = bind_of s (may_remove s.names.nodes n name false) _ (λ host e. tt)
+  ready_of n (rmdir name) = bind_of s (may_remove s.names.nodes n name true) _ (λ host e. tt)
+  ready_of n statfs = bind_of s (live s n) _ (λ kind e. tt)
   ready_of n destroy = tt
 
   -- once initialised
-  then_ready : (n : ℕ) (asked : Asked) → OfFiles s.files (needs s.ready Eproto >>= λ u. ready_aim s n asked)
-  then_ready n asked = bind_of s.files (needs s.ready Eproto) _ (λ u e. ready_of n asked)
+  then_ready : (n : ℕ) (asked : Asked) → OfFiles s (needs s.ready Eproto >>= λ u. ready_aim s n asked)
+  then_ready n asked = bind_of s (needs s.ready Eproto) _ (λ u e. ready_of n asked)
 
-  asked_of : (n : ℕ) (asked : Asked) → OfFiles s.files (message_aim s n asked)
+  asked_of : (n : ℕ) (asked : Asked) → OfFiles s (message_aim s n asked)
   unfolding message_aim
   asked_of n (init a b c e) = init_of a b c e
   asked_of n (forget k) = tt
@@ -157,12 +194,12 @@ module _ (s : State) where
   asked_of n statfs = then_ready n statfs
   asked_of n destroy = then_ready n destroy
 
-  all_of : (m : Result Message Bad) → OfFiles s.files (aim_of s m)
-  all_of (Ok m) = asked_of m.node m.asked
-  all_of (Err quiet) = tt
-  all_of (Err (bad_length unique)) = tt
-  all_of (Err (bad_opcode unique op)) = tt
-  all_of (Err (bad_sizes unique)) = tt
+  pub aim_of_file : (m : Result Message Bad) → OfFiles s (aim_of s m)
+  aim_of_file (Ok m) = asked_of m.node m.asked
+  aim_of_file (Err quiet) = tt
+  aim_of_file (Err (bad_length unique)) = tt
+  aim_of_file (Err (bad_opcode unique op)) = tt
+  aim_of_file (Err (bad_sizes unique)) = tt
 
   pub aim_file : (m : Result Message Bad) (f : MeasuredFile) (offset size : ℕ) → aim_of s m ≡ Ok (reads f offset size) → (n : ℕ) × (file_at s.files n ≡ Some f)
-  aim_file m f offset size is = rw is at (all_of m)
+  aim_file m f offset size is = rw is at (aim_of_file m)

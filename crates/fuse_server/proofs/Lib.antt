@@ -3,6 +3,7 @@ pub mod Pairs
 pub mod Ends
 pub mod Plain
 pub mod Asking
+pub mod Working
 pub mod Staying
 pub mod Unserved
 pub mod Ties

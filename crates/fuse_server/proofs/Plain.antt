@@ -1,82 +1,98 @@
--- What is answered without a call.
-use Rattle.std.proofs.Common.{◌≡◌, ℕ, List, [], Option, None, Result, Ok, Err, refl, inl, inr}
+-- What is answered without a call, and the work that a message aims at.
+use Rattle.std.proofs.Common.{◌≡◌, ℕ, List, [], Option, Some, None, Result, Ok, Err, refl, inl, inr, arith}
 use Rattle.mg_base.specs.declared.errno.Errno.{Errno}
 use Rattle.mg_base.specs.declared.errno.Errno.TheVariants.{Einval, Enomem, Enosys}
 use Rattle.host_traits.specs.Told.{Told}
 use Rattle.host_traits.specs.Did.{Did, trace_of}
-use Rattle.host_traits.proofs.Doing.{did_none}
+use Rattle.host_traits.proofs.Talking.{talked_not}
 use Rattle.fuse_codec.specs.Reply as reply
 use Rattle.fuse_codec.specs.Reply.{Answer, refused}
 use Rattle.fuse_codec.specs.Message.{Message, Bad}
 use Rattle.fuse_codec.specs.Said.{bad_of}
 use Rattle.fuse_codec.specs.declared.request.BadMessage.{BadMessage}
 use Rattle.fuse_codec.specs.declared.request.BadMessage.TheVariants as bads
-use Rattle.fuse_server.specs.Answers.{bad_answer}
-use Rattle.fuse_server.specs.State.{State}
-use Rattle.fuse_server.specs.Aims.{Aim, says, makes, reads, aim_of}
+use Rattle.fuse_server.specs.Answers.{Answered, bad_answer}
+use Rattle.fuse_server.specs.State.{State, WritableFile, Writables, writable_at}
+use Rattle.fuse_server.specs.Aims.{Aim, says, makes, reads, loads, writes, cuts, syncs, aim_of}
+use Rattle.fuse_server.specs.FileRows.{around}
 use Rattle.fuse_server.specs.declared.deed.Deed.{Deed}
 use Rattle.fuse_server.specs.declared.deed.Deed.TheVariants as deed
 use Rattle.fuse_server.specs.declared.deed.Reading.{Reading}
-use Rattle.fuse_server.specs.Deeds.{IsDeed, Refuses, answer_to}
+use Rattle.fuse_server.specs.Deeds.{ByFile, IsDeed, NoCall, Refuses, answer_to}
 use Rattle.verity_path.specs.declared.device.Cause.{Cause}
 use Rattle.verity_path.specs.Range.{most_answers}
-use Rattle.fuse_server.specs.Rows.{IsPlain, IsFileRead, ReadRow, FuseRow, IsForFuse, most_for_fuse, answer_by}
+use Rattle.fuse_server.specs.Rows.{IsPlain, IsFileRead, ReadRow, FuseRow, answer_by}
 
--- it is no read
-abbrev pub IsDone : Result Deed Errno → Type 0
-IsDone (Ok (deed.Read r)) = ⊥
-IsDone other = Unit {0}
+-- ---- rows without a call
 
 plain_row : (a : Answer) (x : Told) → IsPlain (trace_of [] 0 x x) a a None
 plain_row a x = record { own = refl; failed = refl; answer_is = refl; no_cause = refl }
 
-refused_row : (aim : Result Aim Errno) (e : Errno) (x : Told) → Refuses aim e → FuseRow aim (trace_of [] 0 x x) (refused e) None
-refused_row (Err f) e x w = rw w (plain_row (refused f) x)
-refused_row (Ok (says a)) e x w = absurd w
-refused_row (Ok (makes a)) e x w = inr (rw w (plain_row (refused Enomem) x))
-refused_row (Ok (reads f offset size)) e x w = absurd w
+-- nothing was asked
+plain_none : (aim : Result Aim Errno) (files : Writables) (x : Told) (a : Answer) (c : Option Cause) → FuseRow aim (around files files x x (trace_of [] 0 x x)) a c → Answered aim files files x x a c
+plain_none aim files x a c row = record { own = []; talked = talked_not x; calls = tt; few = omega arith; stops = tt; outcome = row }
 
-said_row : (aim : Result Aim Errno) (a : Answer) (x : Told) → aim ≡ Ok (says a) → FuseRow aim (trace_of [] 0 x x) a None
-said_row aim a x e = rw e (plain_row a x)
+module _ (files : Writables) (x : Told) where
+  abbrev Row : Result Aim Errno → Answer → Type 0
+  Row aim a = FuseRow aim (around files files x x (trace_of [] 0 x x)) a None
 
-made_row : (aim : Result Aim Errno) (a : Answer) (x : Told) → aim ≡ Ok (makes a) → FuseRow aim (trace_of [] 0 x x) a None
-made_row aim a x e = rw e (inl (plain_row a x))
+  refused_row : (aim : Result Aim Errno) (e : Errno) → Refuses aim e → Row aim (refused e)
+  refused_row (Err f) e w = (refl, rw w (plain_row (refused f) x))
+  refused_row (Ok (says a)) e w = absurd w
+  refused_row (Ok (makes a)) e w = (refl, inr (rw w (plain_row (refused Enomem) x)))
+  refused_row (Ok (reads f offset size)) e w = absurd w
+  refused_row (Ok (loads number f offset size)) e w = absurd w
+  refused_row (Ok (writes number f offset bytes)) e w = absurd w
+  refused_row (Ok (cuts number f node size)) e w = absurd w
+  refused_row (Ok (syncs number f)) e w = absurd w
 
-row_of : (aim : Result Aim Errno) (d : Result Deed Errno) (x : Told) → IsDone d → IsDeed aim d → FuseRow aim (trace_of [] 0 x x) (answer_to d) None
-row_of aim (Err e) x done w = refused_row aim e x w
-row_of aim (Ok deed.Silent) x done w = said_row aim _ x w
-row_of aim (Ok deed.Empty) x done w = said_row aim _ x w
-row_of aim (Ok (deed.Entry y)) x done w = said_row aim _ x w
-row_of aim (Ok (deed.Attr y)) x done w = said_row aim _ x w
-row_of aim (Ok (deed.Opened handle)) x done w = made_row aim _ x w
-row_of aim (Ok deed.Statfs) x done w = said_row aim _ x w
-row_of aim (Ok (deed.Init y)) x done w = said_row aim _ x w
-row_of aim (Ok (deed.Names listing)) x done w = made_row aim _ x w
-row_of aim (Ok (deed.Read r)) x done w = absurd done
+  said_row : (aim : Result Aim Errno) (a : Answer) → aim ≡ Ok (says a) → Row aim a
+  said_row aim a e = rw e (refl, plain_row a x)
 
-plain_did : (aim : Result Aim Errno) (d : Result Deed Errno) (x : Told) (answer : Answer) → IsDone d → answer ≡ answer_to d → IsDeed aim d
-    → Did (IsForFuse aim) (most_for_fuse aim) x x (λ t. FuseRow aim t answer None)
-plain_did aim d x answer done e w = did_none (IsForFuse aim) (most_for_fuse aim) x _ (rw e (row_of aim d x done w))
+  made_row : (aim : Result Aim Errno) (a : Answer) → aim ≡ Ok (makes a) → Row aim a
+  made_row aim a e = rw e (refl, inl (plain_row a x))
 
-pub plain_at : (aim : Result Aim Errno) (d e : Result Deed Errno) (x : Told) (answer : Answer) (c : Option Cause) → d ≡ e → IsDone e → answer ≡ answer_to e → c ≡ None → IsDeed aim d
-    → Did (IsForFuse aim) (most_for_fuse aim) x x (λ t. FuseRow aim t answer c)
-plain_at aim d e x answer c same done is none w = rw none (plain_did aim e x answer done is (rw same at w))
+  row_of : (aim : Result Aim Errno) (d : Result Deed Errno) → NoCall d → IsDeed files aim d → Row aim (answer_to d)
+  row_of aim (Err e) done w = refused_row aim e w
+  row_of aim (Ok deed.Silent) done w = said_row aim _ w
+  row_of aim (Ok deed.Empty) done w = said_row aim _ w
+  row_of aim (Ok (deed.Entry y)) done w = said_row aim _ w
+  row_of aim (Ok (deed.Attr y)) done w = said_row aim _ w
+  row_of aim (Ok (deed.Opened handle)) done w = made_row aim _ w
+  row_of aim (Ok deed.Statfs) done w = said_row aim _ w
+  row_of aim (Ok (deed.Init y)) done w = said_row aim _ w
+  row_of aim (Ok (deed.Names listing)) done w = made_row aim _ w
+  row_of aim (Ok deed.NoneWritten) done w = said_row aim _ w
+  row_of aim (Ok (deed.Read r)) done w = absurd done
+  row_of aim (Ok (deed.Load r)) done w = absurd done
+  row_of aim (Ok (deed.Store r)) done w = absurd done
+  row_of aim (Ok (deed.Cut r)) done w = absurd done
+  row_of aim (Ok (deed.Sync number)) done w = absurd done
 
--- the read that a message aims at
-pub read_did : (aim : Result Aim Errno) (d : Result Deed Errno) (r : Reading) (a b : Told) (answer : Answer) (c : Option Cause) → d ≡ Ok (deed.Read r) → IsDeed aim d
+pub plain_at : (files : Writables) (aim : Result Aim Errno) (d e : Result Deed Errno) (x : Told) (answer : Answer) (c : Option Cause) → d ≡ e → NoCall e → answer ≡ answer_to e → c ≡ None → IsDeed files aim d
+    → Answered aim files files x x answer c
+plain_at files aim d e x answer c same done is none w = rw none (rw is (plain_none aim files x (answer_to e) None (row_of files x aim e done (rw same at w))))
+
+-- ---- the work that a message aims at
+
+pub read_did : (files : Writables) (aim : Result Aim Errno) (d : Result Deed Errno) (r : Reading) (a b : Told) (answer : Answer) (c : Option Cause) → d ≡ Ok (deed.Read r) → IsDeed files aim d
     → Did (IsFileRead r.file r.offset r.size) (most_answers r.file.measure r.file.size r.offset r.size) a b (λ t. ReadRow r.file r.offset r.size t answer c)
-    → Did (IsForFuse aim) (most_for_fuse aim) a b (λ t. FuseRow aim t answer c)
-read_did aim d r a b answer c e w did = aimed aim (rw e at w) where
-  aimed : (aim : Result Aim Errno) → aim ≡ Ok (reads r.file r.offset r.size) → Did (IsForFuse aim) (most_for_fuse aim) a b (λ t. FuseRow aim t answer c)
-  aimed aim e = rw e did
+    → Answered aim files files a b answer c
+read_did files aim d r a b answer c e w did = aimed aim (rw e at w) where
+  aimed : (aim : Result Aim Errno) → aim ≡ Ok (reads r.file r.offset r.size) → Answered aim files files a b answer c
+  aimed aim e = rw e (record { own = did.own; talked = did.talked; calls = did.calls; few = did.few; stops = did.stops; outcome = (refl, did.outcome) })
 
-bad_row : (s : State) (bad : BadMessage) (x : Told) (bytes : List ℕ) → Did (IsForFuse (aim_of s (Err (bad_of bad)))) (most_for_fuse (aim_of s (Err (bad_of bad)))) x x (λ t. FuseRow (aim_of s (Err (bad_of bad))) t (answer_by (bad_answer bad).reply bytes) (bad_answer bad).cause)
-bad_row s bads.Quiet x bytes = did_none _ _ x _ (plain_row reply.silent x)
-bad_row s (bads.Length unique) x bytes = did_none _ _ x _ (plain_row (refused Einval) x)
-bad_row s (bads.Opcode unique found) x bytes = did_none _ _ x _ (plain_row (refused Enosys) x)
-bad_row s (bads.Sizes unique) x bytes = did_none _ _ x _ (plain_row (refused Einval) x)
+pub by_file : (files news : Writables) (number : ℕ) (aim : Result Aim Errno) (made : WritableFile → Result Aim Errno) (a b : Told) (answer : Answer) (c : Option Cause) → ByFile files number aim made
+    → ((f : WritableFile) → writable_at files number ≡ Some f → Answered (made f) files news a b answer c) → Answered aim files news a b answer c
+by_file files news number aim made a b answer c w so = rw w.2 (so w.0 w.1)
+
+bad_row : (s : State) (bad : BadMessage) (x : Told) (bytes : List ℕ) → Answered (aim_of s (Err (bad_of bad))) s.writables s.writables x x (answer_by (bad_answer bad).reply bytes) (bad_answer bad).cause
+bad_row s bads.Quiet x bytes = plain_none (aim_of s (Err (bad_of bads.Quiet))) s.writables x reply.silent None (refl, plain_row reply.silent x)
+bad_row s (bads.Length unique) x bytes = plain_none (aim_of s (Err (bad_of (bads.Length unique)))) s.writables x (refused Einval) None (refl, plain_row (refused Einval) x)
+bad_row s (bads.Opcode unique found) x bytes = plain_none (aim_of s (Err (bad_of (bads.Opcode unique found)))) s.writables x (refused Enosys) None (refl, plain_row (refused Enosys) x)
+bad_row s (bads.Sizes unique) x bytes = plain_none (aim_of s (Err (bad_of (bads.Sizes unique)))) s.writables x (refused Einval) None (refl, plain_row (refused Einval) x)
 
 -- a message that breaks a rule
 pub bad_did : (s : State) (bad : BadMessage) (x : Told) (r : Result Message Bad) (bytes : List ℕ) → r ≡ Err (bad_of bad)
-    → Did (IsForFuse (aim_of s r)) (most_for_fuse (aim_of s r)) x x (λ t. FuseRow (aim_of s r) t (answer_by (bad_answer bad).reply bytes) (bad_answer bad).cause)
+    → Answered (aim_of s r) s.writables s.writables x x (answer_by (bad_answer bad).reply bytes) (bad_answer bad).cause
 bad_did s bad x r bytes e = rw e (bad_row s bad x bytes)

@@ -1,5 +1,5 @@
 -- Each answer keeps open handles and the nodes' counts of them together.
-use Rattle.std.proofs.Common.{◌≡◌, ◌∙◌, ◌+◌, ◌-◌, ◌≤◌, ◌%◌, if◌then◌else◌, ℕ, Bool, true, false, cond, List, [], ◌∷◌, ◌++◌, length, Option, Some, None, Result, Ok, Err, refl, sym, ap, subst, arith}
+use Rattle.std.proofs.Common.{◌≡◌, ◌∙◌, ◌+◌, ◌-◌, ◌≤◌, if◌then◌else◌, ℕ, Bool, true, false, cond, List, [], ◌∷◌, ◌++◌, length, Option, Some, None, Result, Ok, Err, refl, sym, ap, subst, arith}
 use Rattle.std.proofs.lemmas.Grind.{common_steps}
 use Rattle.std.proofs.lemmas.Bool.Decides.{nat_tests}
 use Rattle.std.specs.Prelude.{nat_eq, nat_lt, is_some, IsOk, ◌==◌, ◌||◌, ◌&&◌, ◌^◌}
@@ -9,7 +9,6 @@ use Rattle.std.specs.Cmp.{nat_cmp_total}
 use Rattle.std.specs.FinMap as map
 use Rattle.mg_base.specs.declared.errno.Errno.{Errno}
 use Rattle.mg_base.specs.declared.errno.Errno.TheVariants.{Enoent, Enotdir, Eacces, Ebadf, Enospc, Eproto}
-use Rattle.host_traits.specs.Did.{Trace}
 use Rattle.verity_path.specs.declared.device.Cause.{Cause}
 use Rattle.authfs_dirs.specs.Names.{Node, NodeMap, Names, ◌>>=◌, needs, found, node_at, put_if, changed, settled, settle_if, lives, one_more, with_lookups, with_pins, looked_up, forgotten, pinned, unpinned, cleared, reset_node, IsReset, lookup_check, is_dir}
 use Rattle.authfs_files.specs.Open.{AreRising, node_of, is_of, holds, may_open, closed}
@@ -17,8 +16,9 @@ use Rattle.fuse_codec.specs.Message.{Asked, init, lookup, forget, batch_forget, 
 use Rattle.fuse_codec.specs.Reply as reply
 use Rattle.fuse_codec.specs.Reply.{Answer}
 use Rattle.fuse_server.specs.State.{State, as_file, live, live_file, live_dir, held}
-use Rattle.fuse_server.specs.Aims.{Aim, open_aim, opendir_aim, handled_aim, releasedir_aim, ready_aim, message_aim}
-use Rattle.fuse_server.specs.Effects.{Becomes, UnlessRefused, IsDestroyed, with_names, counted, all_forgotten, with_handle, without_handle, initialised}
+use Rattle.fuse_server.specs.Aims.{Aim, may_be_opened, open_aim, opendir_aim, handled_aim, releasedir_aim, ready_aim, message_aim}
+use Rattle.fuse_server.specs.Effects.{Becomes, UnlessRefused, IsDestroyed, with_names, with_writables, counted, all_forgotten, with_handle, without_handle, initialised}
+use Rattle.fuse_server.specs.FileRows.{Around}
 use Rattle.fuse_server.specs.Rows.{FuseRow}
 use Rattle.fuse_server.specs.Ties.{handles_of, pins_of, AreTied, TiedAtFirst, TiesStay}
 
@@ -190,7 +190,7 @@ ok_of (Ok y) x e = refl
 ok_of (Err y) x e = absurd cc
 
 live_of : (s : State) (node : ℕ) → IsOk (live_file s node) → Lives s node
-live_of s node ok = let p = passed (live s node) (λ kind. as_file s.files kind) ok in lives_by s node (node_at s.names node) refl (ok_of (live s node) p.value p.is)
+live_of s node ok = let p = passed (live s node) (λ kind. as_file s kind) ok in lives_by s node (node_at s.names node) refl (ok_of (live s node) p.value p.is)
 
 dir_of : (s : State) (node : ℕ) → IsOk (live_dir s node) → Lives s node
 dir_of s node ok = let p = passed (live s node) (λ kind. needs (is_dir kind) Enotdir) ok in lives_by s node (node_at s.names node) refl (ok_of (live s node) p.value p.is)
@@ -215,7 +215,7 @@ unfolding message_aim ready_aim open_aim
 opens s node flags ok =
     let r = passed (needs s.ready Eproto) _ ok in
     let f = passed (live_file s node) _ r.rest in
-    let w = passed (needs (flags % 4 == 0) Eacces) _ f.rest in
+    let w = passed (needs (may_be_opened f.value flags) Eacces) _ f.rest in
     let m = passed (needs (may_open s.open_handles s.given) Enospc) _ w.rest in
     record { lives = live_of s node (ok_of (live_file s node) f.value f.is); few = few_of s.open_handles s.given (needed (may_open s.open_handles s.given) Enospc m.value m.is) }
 
@@ -257,9 +257,9 @@ abbrev IsRefused : Answer → Type 0
 IsRefused (reply.refused e) = Unit {0}
 IsRefused other = ⊥
 
-answered : (r : Result Aim Errno) (t : Trace) (a : Answer) (c : Option Cause) → FuseRow r t a c → (IsRefused a → ⊥) → IsOk r
+answered : (r : Result Aim Errno) (t : Around) (a : Answer) (c : Option Cause) → FuseRow r t a c → (IsRefused a → ⊥) → IsOk r
 answered (Ok aim) t a c row not_refused = refl
-answered (Err e) t a c row not_refused = absurd (not_refused (subst IsRefused (sym row.answer_is) tt))
+answered (Err e) t a c row not_refused = absurd (not_refused (subst IsRefused (sym row.1.answer_is) tt))
 
 unless : (s new : State) (E : Type 0) (a : Answer) → AreTied s → UnlessRefused s new E a → ((IsRefused a → ⊥) → E → AreTied new) → AreTied new
 unless s new E (reply.refused e) w u f = subst AreTied (sym u) w
@@ -276,6 +276,9 @@ unless s new E (reply.bytes_out bytes) w u f = f (λ x. x) u
 
 same : (s new : State) → new ≡ s → AreTied s → AreTied new
 same s new e w = subst AreTied (sym e) w
+
+tied_files : (s new : State) → new ≡ with_writables s new.writables → AreTied s → AreTied new
+tied_files s new e w = subst AreTied (sym e) (record { rising = w.rising; few = w.few; pins = w.pins })
 
 tied_names : (s : State) (names : Names) → ((q : ℕ) → pins_at names.nodes q ≡ pins_at s.names.nodes q) → AreTied s → AreTied (with_names s names)
 tied_names s names kept w = record { rising = w.rising; few = w.few; pins = λ q. kept q ∙ w.pins q }
@@ -334,20 +337,20 @@ tied_destroyed s new d = record {
   pins = λ q. pins_reset s.names new.names d.names q ∙ sym (ap (handles_of q) d.handles);
 }
 
-becomes : (s : State) (node : ℕ) (asked : Asked) (t : Trace) (a : Answer) (c : Option Cause) (new : State) → AreTied s → FuseRow (message_aim s node asked) t a c → Becomes s node asked a new → AreTied new
+becomes : (s : State) (node : ℕ) (asked : Asked) (t : Around) (a : Answer) (c : Option Cause) (new : State) → AreTied s → FuseRow (message_aim s node asked) t a c → Becomes s node asked a new → AreTied new
 becomes s node (init i j k l) t a c new w row u = unless s new _ a w u (λ n e. same _ new e (tied_init s i w))
 becomes s node (lookup name) t a c new w row u = unless s new _ a w u (λ n e. same _ new e (tied_looked s (lookup_check s.names.nodes node name) w))
 becomes s node (forget k) t a c new w row u = unless s new _ a w u (λ n e. same _ new e (tied_if s _ s.ready w (tied_names s (forgotten s.names node k) (pins_forgotten s.names node k) w)))
 becomes s node (batch_forget pairs) t a c new w row u = unless s new _ a w u (λ n e. same _ new e (tied_if s _ s.ready w (tied_names s (all_forgotten s.names pairs) (all_pins s.names pairs) w)))
 becomes s node interrupt t a c new w row u = same s new u w
 becomes s node getattr t a c new w row u = same s new u w
-becomes s node (setattr valid size) t a c new w row u = same s new u w
+becomes s node (setattr valid size) t a c new w row u = tied_files s new u w
 becomes s node (opening flags) t a c new w row u = unless s new _ a w u (λ n e. same _ new e (tied_opened s node (opens s node flags (answered _ t a c row n)) w))
 becomes s node opendir t a c new w row u = unless s new _ a w u (λ n e. same _ new e (tied_opened s node (opens_dir s node (answered _ t a c row n)) w))
-becomes s node (read fh offset size) t a c new w row u = same s new u w
-becomes s node (write fh offset bytes) t a c new w row u = same s new u w
+becomes s node (read fh offset size) t a c new w row u = tied_files s new u w
+becomes s node (write fh offset bytes) t a c new w row u = tied_files s new u w
 becomes s node (flush fh) t a c new w row u = same s new u w
-becomes s node (fsync fh) t a c new w row u = same s new u w
+becomes s node (fsync fh) t a c new w row u = tied_files s new u w
 becomes s node (release fh) t a c new w row u = unless s new _ a w u (λ n e. same _ new e (tied_released s node fh (releases s node fh (answered _ t a c row n)) w))
 becomes s node (releasedir fh) t a c new w row u = unless s new _ a w u (λ n e. same _ new e (tied_released s node fh (releases_dir s node fh (answered _ t a c row n)) w))
 becomes s node (readdir fh offset size) t a c new w row u = same s new u w
@@ -359,8 +362,8 @@ becomes s node statfs t a c new w row u = same s new u w
 becomes s node destroy t a c new w row u = unless s new _ a w u (λ n e. tied_destroyed s new e)
 
 pub ties_stay : TiesStay
-ties_stay s (Ok m) t a c new w row u = becomes s m.node m.asked t a c new w row u
-ties_stay s (Err bad) t a c new w row u = same s new u w
+ties_stay s (Ok m) a answer c new w is = becomes s m.node m.asked a answer c new w is.row is.next
+ties_stay s (Err bad) a answer c new w is = same s new is.next w
 
 pub tied_at_first : TiedAtFirst
-tied_at_first names files none = record { rising = omega arith; few = omega arith; pins = none }
+tied_at_first names files writables none = record { rising = omega arith; few = omega arith; pins = none }

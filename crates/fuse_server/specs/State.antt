@@ -1,5 +1,5 @@
 -- What the server keeps: whether it is initialised, names and nodes, open handles, the read-only files and the writable ones.
-use Rattle.std.specs.Prelude.{Bool, ℕ, List, Option, Result, Ok, Err}
+use Rattle.std.specs.Prelude.{Bool, ℕ, List, [], Option, Result, Ok, Err}
 use Rattle.std.specs.Ordering.{nat_cmp}
 use Rattle.std.specs.Map.{lookup}
 use Rattle.std.specs.BTreeMap.{is_at}
@@ -25,6 +25,10 @@ file_at files number = lookup (is_at (nat_cmp number)) files
 -- a writable file: its number at the host, its size, and its tree, which keeps all digests in memory
 abbrev pub WritableFile : Type 0
 WritableFile = WritableOf Kept
+
+-- an empty one
+abbrev pub empty_file : ℕ → WritableFile
+empty_file number = record { file = number; size = 0; tree = record { digests = []; room = 0 } }
 
 -- the writable files by their numbers
 abbrev pub Writables : Type 0

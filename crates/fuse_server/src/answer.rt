@@ -5,14 +5,18 @@ ghost use Rattle.verity_path.specs.Range.{most_answers};
 ghost use Rattle.mg_base.specs.declared.errno.Errno.{Errno};
 ghost use Rattle.fuse_codec.specs.Sent.{unique_of};
 ghost use Rattle.fuse_server.specs.Aims.{Aim, reads};
-ghost use Rattle.fuse_server.specs.Deeds.{IsDeed, ReadsFew, Answers};
-ghost use Rattle.fuse_server.specs.Answers.{read_answer};
-ghost use Rattle.fuse_server.specs.Rows.{IsFileRead, ReadRow, FuseRow, IsForFuse, most_for_fuse, FuseIsRight, answer_by};
+ghost use Rattle.fuse_server.specs.Deeds.{IsDeed, AreFew, Answers, StaysBy};
+ghost use Rattle.fuse_server.specs.Answers.{Answered, read_answer};
+ghost use Rattle.fuse_server.specs.Rows.{IsFileRead, ReadRow, FuseIsRight, answer_by};
 
 use crate::deed::{Deed, Reading};
+use crate::written::{cut, load, store, sync};
 use fuse_codec::FuseReply;
 use host_traits::Host;
 use mg_base::Errno;
+use rw_file::RwFile;
+use rw_leaves::Leaves;
+use std::collections::BTreeMap;
 use verity_path::{Buffers, Cause, Served, WalkFault};
 
 /// The reply, where there is one, and why it is a failure.
@@ -93,24 +97,25 @@ pub(crate) fn said(reply: Option<FuseReply>) -> FuseAnswer
     FuseAnswer { reply, cause: None }
 }
 
-/// The reply to what a message came to, after the read that it aims at.
+/// The reply to what a message came to, after the work on a file that it aims at.
 pub(crate) fn finish<H: Host>(
+    files: &mut BTreeMap<u32, RwFile<Leaves>>,
     host: &mut H,
     unique: u64,
-    deed: Result<Deed, Errno>,
+    deed: Result<Deed<'_>, Errno>,
     buf: &mut Buffers,
     served: &mut Served,
 ) -> FuseAnswer
     requires empty { served.old ≡ [] }
-    requires few { ReadsFew deed }
-    ensures did { (aim : Result Aim Errno) → IsDeed aim deed
-        → Did (IsForFuse aim) (most_for_fuse aim)
-        (H.told host.old) (H.told host.new)
-        (λ t. FuseRow aim t (answer_by result.reply served.new) result.cause) }
-    ensures held { (aim : Result Aim Errno) → IsDeed aim deed
+    requires few { AreFew deed }
+    ensures did { (aim : Result Aim Errno) → IsDeed files.old.entries aim deed.entry
+        → Answered aim files.old.entries files.new.entries (H.told host.old) (H.told host.new)
+        (answer_by result.reply served.new) result.cause }
+    ensures held { (aim : Result Aim Errno) → IsDeed files.old.entries aim deed.entry
         → FuseIsRight aim (H.told host.old) (H.told host.new)
         (answer_by result.reply served.new) }
-    ensures says { Answers deed (answer_by result.reply served.new) }
+    ensures says { Answers deed.entry (answer_by result.reply served.new) }
+    ensures stays { StaysBy deed.entry files.old.entries files.new.entries }
     ensures number { IfSome result.reply (λ r. unique_of r ≡ unique) }
 {
     match deed {
@@ -122,7 +127,12 @@ pub(crate) fn finish<H: Host>(
         Ok(Deed::Statfs) => said(Some(FuseReply::Statfs { unique })),
         Ok(Deed::Init(init)) => said(Some(FuseReply::Init { unique, init })),
         Ok(Deed::Names(listing)) => said(Some(FuseReply::Names { unique, listing })),
+        Ok(Deed::NoneWritten) => said(Some(FuseReply::Written { unique, count: 0 })),
         Ok(Deed::Read(reading)) => answer_read(host, unique, &reading, buf, served),
+        Ok(Deed::Load(loading)) => load(files, host, unique, &loading, buf, served),
+        Ok(Deed::Store(storing)) => store(files, host, unique, &storing, buf),
+        Ok(Deed::Cut(cutting)) => cut(files, host, unique, &cutting, buf),
+        Ok(Deed::Sync(number)) => sync(files, host, unique, number, buf),
         Err(errno) => refuse(unique, errno, None),
     }
 }

@@ -1,18 +1,20 @@
 // Checks of a message, each for one of its fields.
 ghost use Rattle.std.specs.Prelude.{◌≡◌};
-ghost use Rattle.fuse_server.specs.State.{live, live_file, live_dir, attr_of, held};
+ghost use Rattle.fuse_server.specs.State.{live, live_file, live_dir, attr_of, attr_of_size, held};
+ghost use Rattle.fuse_server.specs.Deeds.{IsBehind};
 ghost use Rattle.fuse_server.specs.Parts.{state_of};
 
-use crate::files::Files;
+use crate::deed::Behind;
 use crate::parts::Parts;
 use authfs_dirs::Kind;
 use fuse_codec::Attr;
 use mg_base::Errno;
-use ro_file::RoFile;
 
 const DIRECTORY: u32 = 0o40755;
 
 const READ_ONLY: u32 = 0o100444;
+
+const WRITABLE: u32 = 0o100644;
 
 /// What a live node is.
 pub(crate) fn live(parts: &Parts, node: u64) -> Result<Kind, Errno>
@@ -25,8 +27,8 @@ pub(crate) fn live(parts: &Parts, node: u64) -> Result<Kind, Errno>
 }
 
 /// The file of a live node that is no directory.
-pub(crate) fn live_file(parts: &Parts, node: u64) -> Result<RoFile, Errno>
-    ensures { result ≡ live_file (state_of parts.now) node }
+pub(crate) fn live_file(parts: &Parts, node: u64) -> Result<Behind, Errno>
+    ensures { IsBehind parts.now.writables.entries (live_file (state_of parts.now) node) result }
 {
     let kind = match live(parts, node) {
         Ok(kind) => kind,
@@ -35,10 +37,16 @@ pub(crate) fn live_file(parts: &Parts, node: u64) -> Result<RoFile, Errno>
     match kind {
         Kind::Dir { .. } => Err(Errno::Eisdir),
         Kind::ReadOnly { file } => match parts.files.at(file) {
-            Some(read) => Ok(read),
+            Some(read) => Ok(Behind::Measured(read)),
             None => Err(Errno::Enosys),
         },
-        Kind::Writable { .. } => Err(Errno::Enosys),
+        Kind::Writable { file } => {
+            if parts.writables.contains_key(&file) {
+                Ok(Behind::Written(file))
+            } else {
+                Err(Errno::Enosys)
+            }
+        }
     }
 }
 
@@ -68,9 +76,20 @@ pub(crate) fn held(parts: &Parts, fh: u64, node: u64) -> Result<(), Errno>
     }
 }
 
+/// The attributes of a writable file of this size.
+pub(crate) fn attr_of_size(node: u64, size: u64) -> Attr
+    ensures { result ≡ attr_of_size node size }
+{
+    Attr {
+        ino: node,
+        size,
+        mode: WRITABLE,
+    }
+}
+
 /// The attributes of a node of this kind.
-pub(crate) fn attr_of(files: &Files, node: u64, kind: Kind) -> Result<Attr, Errno>
-    ensures { result ≡ attr_of files.now node kind }
+pub(crate) fn attr_of(parts: &Parts, node: u64, kind: Kind) -> Result<Attr, Errno>
+    ensures { result ≡ attr_of (state_of parts.now) node kind }
 {
     match kind {
         Kind::Dir { .. } => Ok(Attr {
@@ -78,7 +97,7 @@ pub(crate) fn attr_of(files: &Files, node: u64, kind: Kind) -> Result<Attr, Errn
             size: 0,
             mode: DIRECTORY,
         }),
-        Kind::ReadOnly { file } => match files.at(file) {
+        Kind::ReadOnly { file } => match parts.files.at(file) {
             Some(read) => Ok(Attr {
                 ino: node,
                 size: read.size(),
@@ -86,6 +105,9 @@ pub(crate) fn attr_of(files: &Files, node: u64, kind: Kind) -> Result<Attr, Errn
             }),
             None => Err(Errno::Enosys),
         },
-        Kind::Writable { .. } => Err(Errno::Enosys),
+        Kind::Writable { file } => match parts.writables.get(&file) {
+            Some(written) => Ok(attr_of_size(node, written.size())),
+            None => Err(Errno::Enosys),
+        },
     }
 }

@@ -1,12 +1,18 @@
 // Laws of what is answered.
-ghost use Rattle.fuse_server.specs.Serving.{FilesStay, ServedStay, AllIsServed};
+ghost use Rattle.fuse_server.specs.Serving.{FilesStay, ServedStay, NumbersStay, AllIsServed};
 ghost use Rattle.fuse_server.specs.Ties.{TiedAtFirst, TiesStay};
 
-/// Over names whose nodes are directories that the host doesn't have and read-only files that are there, ENOSYS is answered to
+/// Over names whose nodes are directories that the host doesn't have and files that are there, ENOSYS is answered to
 /// unknown opcodes alone; and whatever is answered, the names stay such. Its contract is the law; it does nothing.
 pub fn names_stay_served()
     ensures stay { ServedStay }
     ensures all { AllIsServed }
+{}
+
+/// Where each writable file stands at the number that it has at the host, it is so whatever is answered. Its contract is the
+/// law; it does nothing.
+pub fn numbers_stay()
+    ensures { NumbersStay }
 {}
 
 /// No message changes the read-only files. Its contract is the law; it does nothing.

@@ -3,15 +3,15 @@ ghost use Rattle.std.specs.Prelude.{◌≡◌, ◌+◌, ◌*◌, ◌/◌, ◌≤
 ghost use Rattle.fuse_codec.specs.Reading.{u64_at, pairs_in};
 ghost use Rattle.fuse_codec.specs.Said.{asked_of, AreWhole};
 ghost use Rattle.fuse_server.specs.Aims.{message_aim, ready_aim};
-ghost use Rattle.fuse_server.specs.Deeds.{IsDeed, IsFew, NoRead, ReadsBy, answer_to};
+ghost use Rattle.fuse_server.specs.Deeds.{IsDeed, IsFew, NoCall, CallsBy, answer_to};
 ghost use Rattle.fuse_server.specs.Effects.{Becomes, with_names, all_forgotten};
 ghost use Rattle.fuse_server.specs.Parts.{state_of};
 
 use crate::deed::Deed;
 use crate::parts::Parts;
 use crate::rows::{
-    add, destroy, flush, forget, getattr, init, lookup, open, opendir, read, readdir, release,
-    releasedir, remove, setattr, statfs, write,
+    add, destroy, flush, forget, fsync, getattr, init, lookup, open, opendir, read, readdir,
+    release, releasedir, remove, setattr, statfs, write,
 };
 use authfs_dirs::Dirs;
 use fuse_codec::Body;
@@ -61,10 +61,11 @@ fn forget_pairs(dirs: &mut Dirs, pairs: &[u8])
 }
 
 // BATCH_FORGET.
-fn batch_forget(parts: &mut Parts, pairs: &[u8]) -> Result<Deed, Errno>
+fn batch_forget<'a>(parts: &mut Parts, pairs: &[u8]) -> Result<Deed<'a>, Errno>
     requires { length pairs.now ≡ 16 * (length pairs.now / 16) }
     ensures silent { result ≡ Ok Deed.Silent }
-    ensures no_read { NoRead result }
+    ensures no_call { NoCall result }
+    ensures files { parts.new.writables ≡ parts.old.writables }
     ensures next { state_of parts.new ≡ (if parts.old.ready
         then with_names (state_of parts.old)
         (all_forgotten parts.old.dirs (pairs_in (length pairs.now / 16) pairs.now))
@@ -78,25 +79,27 @@ fn batch_forget(parts: &mut Parts, pairs: &[u8]) -> Result<Deed, Errno>
 
 // Once initialised.
 #[tactic(auto, unfolding(crate::specs::Aims::ready_aim))]
-fn perform_ready(parts: &mut Parts, node: u64, body: &Body<'_>) -> Result<Deed, Errno>
+fn perform_ready<'a>(parts: &mut Parts, node: u64, body: &Body<'a>) -> Result<Deed<'a>, Errno>
     requires ready { parts.old.ready ≡ true }
     requires few { IsFew (asked_of body.now) }
     requires whole { AreWhole body.now }
-    ensures row { IsDeed (ready_aim (state_of parts.old) node (asked_of body.now)) result }
-    ensures few { ReadsBy (asked_of body.now) result }
+    ensures row { IsDeed parts.old.writables.entries
+        (ready_aim (state_of parts.old) node (asked_of body.now)) result }
+    ensures few { CallsBy (asked_of body.now) result }
+    ensures files { parts.new.writables ≡ parts.old.writables }
     ensures next { Becomes (state_of parts.old) node (asked_of body.now)
         (answer_to result) (state_of parts.new) }
 {
     match *body {
         Body::Lookup { name } => lookup(parts, node, name),
         Body::Getattr => getattr(parts, node),
-        Body::Setattr { valid, .. } => setattr(parts, node, valid),
+        Body::Setattr { valid, size } => setattr(parts, node, valid, size),
         Body::Open { flags } => open(parts, node, flags),
         Body::Opendir => opendir(parts, node),
         Body::Read { fh, offset, size } => read(parts, node, fh, offset, size),
-        Body::Write { fh, .. } => write(parts, node, fh),
+        Body::Write { fh, offset, bytes } => write(parts, node, fh, offset, bytes),
         Body::Flush { fh } => flush(parts, node, fh),
-        Body::Fsync { fh } => flush(parts, node, fh),
+        Body::Fsync { fh } => fsync(parts, node, fh),
         Body::Release { fh } => release(parts, node, fh),
         Body::Releasedir { fh } => releasedir(parts, node, fh),
         Body::Readdir { fh, offset, size } => readdir(parts, node, fh, offset, size),
@@ -120,11 +123,13 @@ fn perform_ready(parts: &mut Parts, node: u64, body: &Body<'_>) -> Result<Deed, 
 
 /// The checks of a message in order, and what it makes of the state. It makes no call.
 #[tactic(auto, unfolding(crate::specs::Aims::message_aim))]
-pub(crate) fn perform(parts: &mut Parts, node: u64, body: &Body<'_>) -> Result<Deed, Errno>
+pub(crate) fn perform<'a>(parts: &mut Parts, node: u64, body: &Body<'a>) -> Result<Deed<'a>, Errno>
     requires few { IsFew (asked_of body.now) }
     requires whole { AreWhole body.now }
-    ensures row { IsDeed (message_aim (state_of parts.old) node (asked_of body.now)) result }
-    ensures few { ReadsBy (asked_of body.now) result }
+    ensures row { IsDeed parts.old.writables.entries
+        (message_aim (state_of parts.old) node (asked_of body.now)) result }
+    ensures few { CallsBy (asked_of body.now) result }
+    ensures files { parts.new.writables ≡ parts.old.writables }
     ensures next { Becomes (state_of parts.old) node (asked_of body.now)
         (answer_to result) (state_of parts.new) }
 {

@@ -1,13 +1,14 @@
 // Each operation: its checks in order, and what it makes of the state.
-ghost use Rattle.std.specs.Prelude.{◌≡◌, ◌≤◌, Ok};
+ghost use Rattle.std.specs.Prelude.{◌≡◌, ◌≤◌, length, Some, Ok};
 ghost use Rattle.fuse_codec.specs.Message.{lookup, forget, opening, opendir, release, releasedir};
-ghost use Rattle.fuse_server.specs.Aims.{init_aim, lookup_aim, getattr_aim, setattr_aim, handle_aim, open_aim, opendir_aim, read_aim, write_aim, held_aim, handled_aim, releasedir_aim, readdir_aim, add_aim, remove_aim, statfs_aim};
-ghost use Rattle.fuse_server.specs.Deeds.{IsDeed, NoRead, ReadsFew, answer_to};
+ghost use Rattle.fuse_server.specs.Aims.{init_aim, lookup_aim, getattr_aim, setattr_aim, size_aim, handle_aim, open_aim, opendir_aim, read_aim, write_at, write_aim, held_aim, handled_aim, fsync_aim, releasedir_aim, readdir_aim, add_aim, remove_aim, statfs_aim};
+ghost use Rattle.fuse_server.specs.Deeds.{IsDeed, NoCall, AreFew, answer_to, reading_of};
 ghost use Rattle.fuse_server.specs.Effects.{Becomes, UnlessRefused, IsDestroyed, initialised, with_handle, without_handle};
 ghost use Rattle.fuse_server.specs.Parts.{state_of};
+ghost use Rattle.fuse_server.specs.State.{WritableFile, Writables, writable_at};
 
 use crate::checks::{attr_of, held, live, live_dir, live_file};
-use crate::deed::{Deed, Reading};
+use crate::deed::{Behind, Cutting, Deed, Loading, Reading, Storing};
 use crate::parts::Parts;
 use authfs_dirs::Kind;
 use fuse_codec::{EntryOut, InitOut};
@@ -21,20 +22,24 @@ const MINOR: u32 = 31;
 /// The bit of INIT's flags that is agreed to (`FUSE_BIG_WRITES`).
 const BIG_WRITES: u32 = 0x20;
 
+/// The most bytes of a writable file.
+const LIMIT: u64 = 4_294_967_296;
+
 /// The bit of SETATTR that asks for a size (`FATTR_SIZE`).
 const ASKS_SIZE: u32 = 8;
 
 /// INIT.
 #[tactic(auto, unfolding(crate::specs::Aims::init_aim))]
-pub(crate) fn init(
+pub(crate) fn init<'a>(
     parts: &mut Parts,
     major: u32,
     minor: u32,
     max_readahead: u32,
     flags: u32,
-) -> Result<Deed, Errno>
-    ensures row { IsDeed (init_aim (state_of parts.old) major minor max_readahead flags) result }
-    ensures no_read { NoRead result }
+) -> Result<Deed<'a>, Errno>
+    ensures row { IsDeed parts.old.writables.entries (init_aim (state_of parts.old) major minor max_readahead flags) result }
+    ensures no_call { NoCall result }
+    ensures files { parts.new.writables ≡ parts.old.writables }
     ensures next { UnlessRefused (state_of parts.old) (state_of parts.new)
         (state_of parts.new ≡ initialised (state_of parts.old) major) (answer_to result) }
 {
@@ -71,9 +76,10 @@ pub(crate) fn init(
 
 /// LOOKUP: one lookup more of the node that the name names, where it is answered.
 #[tactic(auto, unfolding(crate::specs::Aims::lookup_aim))]
-pub(crate) fn lookup(parts: &mut Parts, parent: u64, name: &[u8]) -> Result<Deed, Errno>
-    ensures row { IsDeed (lookup_aim (state_of parts.old) parent name.now) result }
-    ensures no_read { NoRead result }
+pub(crate) fn lookup<'a>(parts: &mut Parts, parent: u64, name: &[u8]) -> Result<Deed<'a>, Errno>
+    ensures row { IsDeed parts.old.writables.entries (lookup_aim (state_of parts.old) parent name.now) result }
+    ensures no_call { NoCall result }
+    ensures files { parts.new.writables ≡ parts.old.writables }
     ensures next { Becomes (state_of parts.old) parent (lookup name.now)
         (answer_to result) (state_of parts.new) }
 {
@@ -85,7 +91,7 @@ pub(crate) fn lookup(parts: &mut Parts, parent: u64, name: &[u8]) -> Result<Deed
         Ok(kind) => kind,
         Err(errno) => return Err(errno),
     };
-    let attr = match attr_of(&parts.files, node, kind) {
+    let attr = match attr_of(parts, node, kind) {
         Ok(attr) => attr,
         Err(errno) => return Err(errno),
     };
@@ -95,25 +101,45 @@ pub(crate) fn lookup(parts: &mut Parts, parent: u64, name: &[u8]) -> Result<Deed
 
 /// GETATTR.
 #[tactic(auto, unfolding(crate::specs::Aims::getattr_aim))]
-pub(crate) fn getattr(parts: &Parts, node: u64) -> Result<Deed, Errno>
-    ensures row { IsDeed (getattr_aim (state_of parts.now) node) result }
-    ensures no_read { NoRead result }
+pub(crate) fn getattr<'a>(parts: &Parts, node: u64) -> Result<Deed<'a>, Errno>
+    ensures row { IsDeed parts.now.writables.entries (getattr_aim (state_of parts.now) node) result }
+    ensures no_call { NoCall result }
 {
     let kind = match live(parts, node) {
         Ok(kind) => kind,
         Err(errno) => return Err(errno),
     };
-    match attr_of(&parts.files, node, kind) {
+    match attr_of(parts, node, kind) {
         Ok(attr) => Ok(Deed::Attr(attr)),
         Err(errno) => Err(errno),
     }
 }
 
-/// SETATTR: a size is refused, and nothing else is changed.
+// Another size of the writable file of a number.
+fn cut<'a>(parts: &Parts, node: u64, number: u32, size: u64) -> Result<Deed<'a>, Errno>
+    ensures row { IsDeed parts.now.writables.entries
+        (size_aim (state_of parts.now) node size (Kind.Writable number)) result }
+{
+    if !parts.writables.contains_key(&number) {
+        return Err(Errno::Enosys);
+    }
+    if size > LIMIT {
+        return Err(Errno::Efbig);
+    }
+    Ok(Deed::Cut(Cutting { number, node, size }))
+}
+
+/// SETATTR, up to the new size itself.
 #[tactic(auto, unfolding(crate::specs::Aims::setattr_aim))]
-pub(crate) fn setattr(parts: &Parts, node: u64, valid: u32) -> Result<Deed, Errno>
-    ensures row { IsDeed (setattr_aim (state_of parts.now) node valid) result }
-    ensures no_read { NoRead result }
+pub(crate) fn setattr<'a>(
+    parts: &Parts,
+    node: u64,
+    valid: u32,
+    size: u64,
+) -> Result<Deed<'a>, Errno>
+    ensures row { IsDeed parts.now.writables.entries
+        (setattr_aim (state_of parts.now) node valid size) result }
+    ensures few { AreFew result }
 {
     let kind = match live(parts, node) {
         Ok(kind) => kind,
@@ -125,14 +151,15 @@ pub(crate) fn setattr(parts: &Parts, node: u64, valid: u32) -> Result<Deed, Errn
     match kind {
         Kind::Dir { .. } => Err(Errno::Eisdir),
         Kind::ReadOnly { .. } => Err(Errno::Eacces),
-        Kind::Writable { .. } => Err(Errno::Enosys),
+        Kind::Writable { file } => cut(parts, node, file, size),
     }
 }
 
 // One handle more, of a live node.
-fn open_handle(parts: &mut Parts, node: u64) -> Result<Deed, Errno>
-    ensures row { IsDeed (handle_aim (state_of parts.old)) result }
-    ensures no_read { NoRead result }
+fn open_handle<'a>(parts: &mut Parts, node: u64) -> Result<Deed<'a>, Errno>
+    ensures row { IsDeed parts.old.writables.entries (handle_aim (state_of parts.old)) result }
+    ensures no_call { NoCall result }
+    ensures files { parts.new.writables ≡ parts.old.writables }
     ensures next { UnlessRefused (state_of parts.old) (state_of parts.new)
         (state_of parts.new ≡ with_handle (state_of parts.old) node) (answer_to result) }
 {
@@ -149,9 +176,10 @@ fn open_handle(parts: &mut Parts, node: u64) -> Result<Deed, Errno>
 }
 
 // One handle less, where it is open and of this node.
-fn close_handle(parts: &mut Parts, node: u64, fh: u64) -> Result<Deed, Errno>
-    ensures row { IsDeed (held_aim (state_of parts.old) node fh) result }
-    ensures no_read { NoRead result }
+fn close_handle<'a>(parts: &mut Parts, node: u64, fh: u64) -> Result<Deed<'a>, Errno>
+    ensures row { IsDeed parts.old.writables.entries (held_aim (state_of parts.old) node fh) result }
+    ensures no_call { NoCall result }
+    ensures files { parts.new.writables ≡ parts.old.writables }
     ensures next { UnlessRefused (state_of parts.old) (state_of parts.new)
         (state_of parts.new ≡ without_handle (state_of parts.old) node fh) (answer_to result) }
 {
@@ -166,27 +194,31 @@ fn close_handle(parts: &mut Parts, node: u64, fh: u64) -> Result<Deed, Errno>
 
 /// OPEN: one handle more.
 #[tactic(auto, unfolding(crate::specs::Aims::open_aim))]
-pub(crate) fn open(parts: &mut Parts, node: u64, flags: u32) -> Result<Deed, Errno>
-    ensures row { IsDeed (open_aim (state_of parts.old) node flags) result }
-    ensures no_read { NoRead result }
+pub(crate) fn open<'a>(parts: &mut Parts, node: u64, flags: u32) -> Result<Deed<'a>, Errno>
+    ensures row { IsDeed parts.old.writables.entries (open_aim (state_of parts.old) node flags) result }
+    ensures no_call { NoCall result }
+    ensures files { parts.new.writables ≡ parts.old.writables }
     ensures next { Becomes (state_of parts.old) node (opening flags)
         (answer_to result) (state_of parts.new) }
 {
     match live_file(parts, node) {
-        Ok(_) => {}
+        Ok(Behind::Measured(_)) => {
+            if flags % 4 != 0 {
+                return Err(Errno::Eacces);
+            }
+        }
+        Ok(Behind::Written(_)) => {}
         Err(errno) => return Err(errno),
-    }
-    if flags % 4 != 0 {
-        return Err(Errno::Eacces);
     }
     open_handle(parts, node)
 }
 
 /// OPENDIR: one handle more.
 #[tactic(auto, unfolding(crate::specs::Aims::opendir_aim))]
-pub(crate) fn opendir(parts: &mut Parts, node: u64) -> Result<Deed, Errno>
-    ensures row { IsDeed (opendir_aim (state_of parts.old) node) result }
-    ensures no_read { NoRead result }
+pub(crate) fn opendir<'a>(parts: &mut Parts, node: u64) -> Result<Deed<'a>, Errno>
+    ensures row { IsDeed parts.old.writables.entries (opendir_aim (state_of parts.old) node) result }
+    ensures no_call { NoCall result }
+    ensures files { parts.new.writables ≡ parts.old.writables }
     ensures next { Becomes (state_of parts.old) node opendir
         (answer_to result) (state_of parts.new) }
 {
@@ -197,44 +229,98 @@ pub(crate) fn opendir(parts: &mut Parts, node: u64) -> Result<Deed, Errno>
     open_handle(parts, node)
 }
 
+// A read of what stands behind a node.
+fn read_of<'a>(behind: Behind, offset: u64, size: u32) -> Deed<'a>
+    ensures { result ≡ reading_of behind offset size }
+{
+    match behind {
+        Behind::Measured(file) => Deed::Read(Reading { file, offset, size }),
+        Behind::Written(number) => Deed::Load(Loading {
+            number,
+            offset,
+            size,
+        }),
+    }
+}
+
 /// READ, up to the read itself.
 #[tactic(auto, unfolding(crate::specs::Aims::read_aim))]
-pub(crate) fn read(parts: &Parts, node: u64, fh: u64, offset: u64, size: u32) -> Result<Deed, Errno>
+pub(crate) fn read<'a>(
+    parts: &Parts,
+    node: u64,
+    fh: u64,
+    offset: u64,
+    size: u32,
+) -> Result<Deed<'a>, Errno>
     requires { size ≤ 131072 }
-    ensures row { IsDeed (read_aim (state_of parts.now) node fh offset size) result }
-    ensures few { ReadsFew result }
+    ensures row { IsDeed parts.now.writables.entries
+        (read_aim (state_of parts.now) node fh offset size) result }
+    ensures few { AreFew result }
 {
-    let file = match live_file(parts, node) {
-        Ok(file) => file,
+    let behind = match live_file(parts, node) {
+        Ok(behind) => behind,
         Err(errno) => return Err(errno),
     };
     match held(parts, fh, node) {
-        Ok(()) => Ok(Deed::Read(Reading { file, offset, size })),
+        Ok(()) => Ok(read_of(behind, offset, size)),
         Err(errno) => Err(errno),
     }
 }
 
-/// WRITE: a file that is only read isn't written.
-#[tactic(auto, unfolding(crate::specs::Aims::write_aim))]
-pub(crate) fn write(parts: &Parts, node: u64, fh: u64) -> Result<Deed, Errno>
-    ensures row { IsDeed (write_aim (state_of parts.now) node fh) result }
-    ensures no_read { NoRead result }
+// A write of bytes of the writable file of a number.
+fn store<'a>(number: u32, offset: u64, bytes: &'a [u8]) -> Result<Deed<'a>, Errno>
+    requires { length bytes.now ≤ 131072 }
+    ensures row { (files : Writables) (file : WritableFile) → writable_at files number ≡ Some file
+        → IsDeed files (write_at number file offset bytes.now) result }
+    ensures few { AreFew result }
 {
-    match live_file(parts, node) {
-        Ok(_) => {}
+    if bytes.is_empty() {
+        return Ok(Deed::NoneWritten);
+    }
+    if offset > LIMIT - bytes.len() as u64 {
+        return Err(Errno::Efbig);
+    }
+    Ok(Deed::Store(Storing {
+        number,
+        offset,
+        bytes,
+    }))
+}
+
+/// WRITE, up to the write itself.
+#[tactic(auto, unfolding(crate::specs::Aims::write_aim))]
+pub(crate) fn write<'a>(
+    parts: &Parts,
+    node: u64,
+    fh: u64,
+    offset: u64,
+    bytes: &'a [u8],
+) -> Result<Deed<'a>, Errno>
+    requires { length bytes.now ≤ 131072 }
+    ensures row { IsDeed parts.now.writables.entries
+        (write_aim (state_of parts.now) node fh offset bytes.now) result }
+    ensures few { AreFew result }
+{
+    let behind = match live_file(parts, node) {
+        Ok(behind) => behind,
+        Err(errno) => return Err(errno),
+    };
+    match held(parts, fh, node) {
+        Ok(()) => {}
         Err(errno) => return Err(errno),
     }
-    match held(parts, fh, node) {
-        Ok(()) => Err(Errno::Eacces),
-        Err(errno) => Err(errno),
+    match behind {
+        Behind::Measured(_) => Err(Errno::Eacces),
+        Behind::Written(number) => store(number, offset, bytes),
     }
 }
 
-/// FLUSH and FSYNC: nothing is to be written.
+/// FLUSH: nothing is to be written.
 #[tactic(auto, unfolding(crate::specs::Aims::handled_aim))]
-pub(crate) fn flush(parts: &Parts, node: u64, fh: u64) -> Result<Deed, Errno>
-    ensures row { IsDeed (handled_aim (state_of parts.now) node fh) result }
-    ensures no_read { NoRead result }
+pub(crate) fn flush<'a>(parts: &Parts, node: u64, fh: u64) -> Result<Deed<'a>, Errno>
+    ensures row { IsDeed parts.now.writables.entries
+        (handled_aim (state_of parts.now) node fh) result }
+    ensures no_call { NoCall result }
 {
     match live_file(parts, node) {
         Ok(_) => {}
@@ -246,11 +332,33 @@ pub(crate) fn flush(parts: &Parts, node: u64, fh: u64) -> Result<Deed, Errno>
     }
 }
 
+/// FSYNC, up to writing out the tree itself.
+#[tactic(auto, unfolding(crate::specs::Aims::fsync_aim))]
+pub(crate) fn fsync<'a>(parts: &Parts, node: u64, fh: u64) -> Result<Deed<'a>, Errno>
+    ensures row { IsDeed parts.now.writables.entries
+        (fsync_aim (state_of parts.now) node fh) result }
+    ensures few { AreFew result }
+{
+    let behind = match live_file(parts, node) {
+        Ok(behind) => behind,
+        Err(errno) => return Err(errno),
+    };
+    match held(parts, fh, node) {
+        Ok(()) => {}
+        Err(errno) => return Err(errno),
+    }
+    match behind {
+        Behind::Measured(_) => Ok(Deed::Empty),
+        Behind::Written(number) => Ok(Deed::Sync(number)),
+    }
+}
+
 /// RELEASE: one handle less.
 #[tactic(auto, unfolding(crate::specs::Aims::handled_aim))]
-pub(crate) fn release(parts: &mut Parts, node: u64, fh: u64) -> Result<Deed, Errno>
-    ensures row { IsDeed (handled_aim (state_of parts.old) node fh) result }
-    ensures no_read { NoRead result }
+pub(crate) fn release<'a>(parts: &mut Parts, node: u64, fh: u64) -> Result<Deed<'a>, Errno>
+    ensures row { IsDeed parts.old.writables.entries (handled_aim (state_of parts.old) node fh) result }
+    ensures no_call { NoCall result }
+    ensures files { parts.new.writables ≡ parts.old.writables }
     ensures next { Becomes (state_of parts.old) node (release fh)
         (answer_to result) (state_of parts.new) }
 {
@@ -263,9 +371,10 @@ pub(crate) fn release(parts: &mut Parts, node: u64, fh: u64) -> Result<Deed, Err
 
 /// RELEASEDIR: one handle less.
 #[tactic(auto, unfolding(crate::specs::Aims::releasedir_aim))]
-pub(crate) fn releasedir(parts: &mut Parts, node: u64, fh: u64) -> Result<Deed, Errno>
-    ensures row { IsDeed (releasedir_aim (state_of parts.old) node fh) result }
-    ensures no_read { NoRead result }
+pub(crate) fn releasedir<'a>(parts: &mut Parts, node: u64, fh: u64) -> Result<Deed<'a>, Errno>
+    ensures row { IsDeed parts.old.writables.entries (releasedir_aim (state_of parts.old) node fh) result }
+    ensures no_call { NoCall result }
+    ensures files { parts.new.writables ≡ parts.old.writables }
     ensures next { Becomes (state_of parts.old) node (releasedir fh)
         (answer_to result) (state_of parts.new) }
 {
@@ -278,16 +387,16 @@ pub(crate) fn releasedir(parts: &mut Parts, node: u64, fh: u64) -> Result<Deed, 
 
 /// READDIR: the entries behind the offset, as many as are whole in so many bytes.
 #[tactic(auto, unfolding(crate::specs::Aims::readdir_aim))]
-pub(crate) fn readdir(
+pub(crate) fn readdir<'a>(
     parts: &Parts,
     node: u64,
     fh: u64,
     offset: u64,
     size: u32,
-) -> Result<Deed, Errno>
+) -> Result<Deed<'a>, Errno>
     requires { size ≤ 131072 }
-    ensures row { IsDeed (readdir_aim (state_of parts.now) node fh offset size) result }
-    ensures no_read { NoRead result }
+    ensures row { IsDeed parts.now.writables.entries (readdir_aim (state_of parts.now) node fh offset size) result }
+    ensures no_call { NoCall result }
 {
     match live_dir(parts, node) {
         Ok(()) => {}
@@ -305,9 +414,9 @@ pub(crate) fn readdir(
 
 /// CREATE and MKDIR: why a name isn't added.
 #[tactic(auto, unfolding(crate::specs::Aims::add_aim))]
-pub(crate) fn add(parts: &Parts, parent: u64, name: &[u8]) -> Result<Deed, Errno>
-    ensures row { IsDeed (add_aim (state_of parts.now) parent name.now) result }
-    ensures no_read { NoRead result }
+pub(crate) fn add<'a>(parts: &Parts, parent: u64, name: &[u8]) -> Result<Deed<'a>, Errno>
+    ensures row { IsDeed parts.now.writables.entries (add_aim (state_of parts.now) parent name.now) result }
+    ensures no_call { NoCall result }
 {
     match parts.dirs.may_add(parent, name) {
         Ok(_) => Err(Errno::Enosys),
@@ -317,9 +426,14 @@ pub(crate) fn add(parts: &Parts, parent: u64, name: &[u8]) -> Result<Deed, Errno
 
 /// UNLINK and RMDIR: why a name isn't removed.
 #[tactic(auto, unfolding(crate::specs::Aims::remove_aim))]
-pub(crate) fn remove(parts: &Parts, parent: u64, name: &[u8], dir: bool) -> Result<Deed, Errno>
-    ensures row { IsDeed (remove_aim (state_of parts.now) parent name.now dir) result }
-    ensures no_read { NoRead result }
+pub(crate) fn remove<'a>(
+    parts: &Parts,
+    parent: u64,
+    name: &[u8],
+    dir: bool,
+) -> Result<Deed<'a>, Errno>
+    ensures row { IsDeed parts.now.writables.entries (remove_aim (state_of parts.now) parent name.now dir) result }
+    ensures no_call { NoCall result }
 {
     match parts.dirs.may_remove(parent, name, dir) {
         Ok(_) => Err(Errno::Enosys),
@@ -329,9 +443,9 @@ pub(crate) fn remove(parts: &Parts, parent: u64, name: &[u8], dir: bool) -> Resu
 
 /// STATFS.
 #[tactic(auto, unfolding(crate::specs::Aims::statfs_aim))]
-pub(crate) fn statfs(parts: &Parts, node: u64) -> Result<Deed, Errno>
-    ensures row { IsDeed (statfs_aim (state_of parts.now) node) result }
-    ensures no_read { NoRead result }
+pub(crate) fn statfs<'a>(parts: &Parts, node: u64) -> Result<Deed<'a>, Errno>
+    ensures row { IsDeed parts.now.writables.entries (statfs_aim (state_of parts.now) node) result }
+    ensures no_call { NoCall result }
 {
     match live(parts, node) {
         Ok(_) => Ok(Deed::Statfs),
@@ -340,9 +454,10 @@ pub(crate) fn statfs(parts: &Parts, node: u64) -> Result<Deed, Errno>
 }
 
 /// FORGET: so many lookups less.
-pub(crate) fn forget(parts: &mut Parts, node: u64, count: u64) -> Result<Deed, Errno>
+pub(crate) fn forget<'a>(parts: &mut Parts, node: u64, count: u64) -> Result<Deed<'a>, Errno>
     ensures silent { result ≡ Ok Deed.Silent }
-    ensures no_read { NoRead result }
+    ensures no_call { NoCall result }
+    ensures files { parts.new.writables ≡ parts.old.writables }
     ensures next { Becomes (state_of parts.old) node (forget count)
         (answer_to result) (state_of parts.new) }
 {
@@ -353,9 +468,10 @@ pub(crate) fn forget(parts: &mut Parts, node: u64, count: u64) -> Result<Deed, E
 }
 
 /// DESTROY: no handle, no lookup, not initialised.
-pub(crate) fn destroy(parts: &mut Parts) -> Result<Deed, Errno>
+pub(crate) fn destroy<'a>(parts: &mut Parts) -> Result<Deed<'a>, Errno>
     ensures empty { result ≡ Ok Deed.Empty }
-    ensures no_read { NoRead result }
+    ensures no_call { NoCall result }
+    ensures files { parts.new.writables ≡ parts.old.writables }
     ensures next { IsDestroyed (state_of parts.old) (state_of parts.new) }
 {
     parts.ready = false;
