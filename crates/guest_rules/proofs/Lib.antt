@@ -5,3 +5,5 @@ pub mod Devices
 pub mod Serving
 pub mod Exact
 pub mod Reading
+pub mod Writing
+pub mod Agreeing
