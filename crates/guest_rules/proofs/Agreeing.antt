@@ -24,11 +24,12 @@ use Rattle.fuse_server.specs.Serving.{AreNumbered}
 use Rattle.guest_rules.specs.Machine.{Setting, State, Moment, Turn, Request, message_of, read_of, get_of, put_of, request_of, Instance}
 use Rattle.instance_image.specs.declared.values.Part.{Part}
 use Rattle.guest_rules.specs.RecordRow.{IsForGet, IsForPut}
-use Rattle.guest_rules.specs.Step.{Step, IsFor, heard_in}
-use Rattle.guest_rules.specs.Written.{FileBytes, StandFor, bytes_after, Agree, HostsAgree}
+use Rattle.guest_rules.specs.MessageRow.{Heard}
+use Rattle.guest_rules.specs.Step.{IsFor, heard_in}
+use Rattle.guest_rules.specs.Written.{FileBytes, bytes_after, Agrees, HostsAgree, RunsAgree}
 use Rattle.guest_rules.proofs.Devices.{page_reads}
 use Rattle.guest_rules.proofs.Holding.{IsReading, of_blocks, of_file, pair_is, reading_keeps}
-use Rattle.guest_rules.proofs.Writing.{IsOther, IsOtherFile, AreSame, AreLeft, replaced_at, turn_is}
+use Rattle.guest_rules.proofs.Writing.{IsOther, IsOtherFile, AreSame, AreLeft, replaced_at, now_stand, turn_is}
 
 -- a call that leaves the bytes of a file: it reads, or writes sectors, or another file
 pub data IsLeaving (file : ℕ) : Call → Type 0 where
@@ -125,20 +126,36 @@ module _ (g : Setting) (s : State) (request : Request) (x y : Told) (own : List 
 apart_of : (m n a b : ℕ) → nat_eq m n ≡ false → a ≡ m → b ≡ n → b ≢ a
 apart_of m n a b e is_a is_b = grind (arith, nat_tests)
 
+-- the files stand at their numbers
+now_numbered : (s new : Fuse) (h : Heard) (Other : ℕ → Type 0) (bytes after : FileBytes) → AreNumbered s.writables → AreSame s new Other bytes after ⊎ AreLeft s new h Other bytes after → AreNumbered new.writables
+now_numbered s new h Other bytes after numbered (inl l) = subst AreNumbered (sym l.files) numbered
+now_numbered s new h Other bytes after numbered (inr l) = subst AreNumbered (sym l.files) (λ m f at.
+    replaced_at s.writables l.number m l.file l.other f l.there at (λ z. z.file ≡ m) (λ e here. l.file_is ∙ numbered l.number l.file l.there ∙ sym e) (λ other was. numbered m f was))
+
+-- where the host held the bytes of one, it holds them
+now_held : (s new : Fuse) (h : Heard) (Other : ℕ → Type 0) (bytes after : FileBytes) (number : ℕ) → AreNumbered s.writables
+    → ((file : ℕ) (c : List ℕ) → Other file → IsAtHost h.before file c → IsAtHost h.after file c)
+    → Agrees h.before s.writables bytes number → AreSame s new Other bytes after ⊎ AreLeft s new h Other bytes after → Agrees h.after new.writables after number
+now_held s new h Other bytes after number numbered stays agree (inl l) =
+    subst (λ z. Agrees h.after z after number) (sym l.files) (subst (λ (b : FileBytes). Agrees h.after s.writables b number) (sym l.bytes_are) (λ f at. stays f.file (bytes number) (l.others f.file) (agree f at)))
+now_held s new h Other bytes after number numbered stays agree (inr l) = subst (λ z. Agrees h.after z after number) (sym l.files) (λ f at.
+    replaced_at s.writables l.number number l.file l.other f l.there at (λ z. IsAtHost h.after z.file (after number))
+    (λ e here. subst (λ (k : ℕ). IsAtHost h.after l.other.file (after k)) (sym e) (subst (λ (k : ℕ). IsAtHost h.after k (after l.number)) (sym l.file_is)
+    (l.left.agree (subst (λ (k : ℕ). Agrees h.before s.writables bytes k) e agree l.file l.there))))
+    (λ other was. subst (λ (c : List ℕ). IsAtHost h.after f.file c) (sym (l.same number other))
+    (stays f.file (bytes number) (l.others f.file (apart_of number l.number f.file l.file.file other (numbered number f was) (numbered l.number l.file l.there))) (agree f was))))
+
 pub hosts_agree : HostsAgree
-hosts_agree g world old turn new bytes step numbered stand clear agree = ⊎_elim same_files one_file (turn_is g world old turn new bytes step stand clear).0 where
-  stays : (file : ℕ) (c : List ℕ) → IsOtherFile file old.state.fuse (request_of turn.frame) → IsAtHost old.told.held file c → IsAtHost new.told.held file c
-  stays = others_held g old.state (request_of turn.frame) old.told new.told turn.own step.talked step.calls
+hosts_agree g world old turn new bytes number step numbered stand clear agree =
+    now_held old.state.fuse new.state.fuse (heard_in old turn new) (λ k. IsOtherFile k old.state.fuse (request_of turn.frame)) bytes (bytes_after old.state turn bytes) number numbered
+    (others_held g old.state (request_of turn.frame) old.told new.told turn.own step.talked step.calls) agree (turn_is g world old turn new bytes step stand clear).0
 
-  same_files : AreSame old.state.fuse new.state.fuse (λ k. IsOtherFile k old.state.fuse (request_of turn.frame)) bytes (bytes_after old.state turn bytes) → Agree new.told.held new.state.fuse.writables (bytes_after old.state turn bytes)
-  same_files l = subst (λ z. Agree new.told.held z (bytes_after old.state turn bytes)) (sym l.files) (subst (λ (b : FileBytes). Agree new.told.held old.state.fuse.writables b) (sym l.bytes_are)
-      (λ m f at. stays f.file (bytes m) (l.others f.file) (agree m f at)))
-
-  one_file : AreLeft old.state.fuse new.state.fuse (heard_in old turn new) (λ k. IsOtherFile k old.state.fuse (request_of turn.frame)) bytes (bytes_after old.state turn bytes)
-      → Agree new.told.held new.state.fuse.writables (bytes_after old.state turn bytes)
-  one_file l = subst (λ z. Agree new.told.held z (bytes_after old.state turn bytes)) (sym l.files) (λ m f at.
-      replaced_at old.state.fuse.writables l.number m l.file l.other f l.there at (λ z. IsAtHost new.told.held z.file (bytes_after old.state turn bytes m))
-      (λ e here. subst (λ (k : ℕ). IsAtHost new.told.held l.other.file (bytes_after old.state turn bytes k)) (sym e)
-      (subst (λ (k : ℕ). IsAtHost new.told.held k (bytes_after old.state turn bytes l.number)) (sym l.file_is) (l.left.agree (agree l.number l.file l.there))))
-      (λ other was. subst (λ (c : List ℕ). IsAtHost new.told.held f.file c) (sym (l.same m other))
-      (stays f.file (bytes m) (l.others f.file (apart_of m l.number f.file l.file.file other (numbered m f was) (numbered l.number l.file l.there))) (agree m f was))))
+pub runs_agree : RunsAgree
+runs_agree g world old [] new run bytes number numbered stand clear agree = subst (λ (m : Moment). Agrees m.told.held m.state.fuse.writables bytes number) run agree
+runs_agree g world old (turn ∷ turns) new run bytes number numbered stand clear agree =
+    let Other = λ (k : ℕ). IsOtherFile k old.state.fuse (request_of turn.frame) in
+    let one = (turn_is g world old turn run.0 bytes run.2 stand clear.0).0 in
+    runs_agree g world run.0 turns new run.3 (bytes_after old.state turn bytes) number
+    (now_numbered old.state.fuse run.0.state.fuse (heard_in old turn run.0) Other bytes (bytes_after old.state turn bytes) numbered one)
+    (now_stand old.state.fuse run.0.state.fuse (heard_in old turn run.0) Other bytes (bytes_after old.state turn bytes) stand one) clear.1
+    (hosts_agree g world old turn run.0 bytes number run.2 numbered stand clear.0 agree)

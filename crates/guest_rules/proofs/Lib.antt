@@ -7,3 +7,4 @@ pub mod Exact
 pub mod Reading
 pub mod Writing
 pub mod Agreeing
+pub mod Completing

@@ -133,16 +133,27 @@ WritesAreRead = (g : Setting) (world : World) (old : Moment) (turns : List Turn)
 
 -- ---- over a host that holds them
 
--- the host holds the bytes of each writable file
-abbrev pub Agree : Option Held → Writables → FileBytes → Type 0
-Agree held files bytes = (number : ℕ) (f : WritableFile) → writable_at files number ≡ Some f → IsAtHost held f.file (bytes number)
+-- the host holds the bytes of the writable file at a number, where there is one
+abbrev pub Agrees : Option Held → Writables → FileBytes → ℕ → Type 0
+Agrees held files bytes number = (f : WritableFile) → writable_at files number ≡ Some f → IsAtHost held f.file (bytes number)
 
--- Law: over a host that holds the bytes of the writable files, each request leaves it so, whatever fails: what the host holds of a
--- file is what was written with success.
+-- Law: where the host holds the bytes of a writable file, each request leaves it so, whatever fails: what the host holds of the file
+-- is what was written with success.
 abbrev pub HostsAgree : Type 0
-HostsAgree = (g : Setting) (world : World) (old : Moment) (turn : Turn) (new : Moment) (bytes : FileBytes)
+HostsAgree = (g : Setting) (world : World) (old : Moment) (turn : Turn) (new : Moment) (bytes : FileBytes) (number : ℕ)
     → Step g world old turn new → AreNumbered old.state.fuse.writables → StandFor old.state.fuse.writables bytes → IsClear old.state turn bytes
-    → Agree old.told.held old.state.fuse.writables bytes → Agree new.told.held new.state.fuse.writables (bytes_after old.state turn bytes)
+    → Agrees old.told.held old.state.fuse.writables bytes number → Agrees new.told.held new.state.fuse.writables (bytes_after old.state turn bytes) number
+
+-- the bytes after some turns
+abbrev pub bytes_through : (g : Setting) (world : World) (old : Moment) (turns : List Turn) (new : Moment) → Run g world old turns new → FileBytes → FileBytes
+bytes_through g world old [] new run bytes = bytes
+bytes_through g world old (turn ∷ turns) new run bytes = bytes_through g world run.0 turns new run.3 (bytes_after old.state turn bytes)
+
+-- Law: so does each run.
+abbrev pub RunsAgree : Type 0
+RunsAgree = (g : Setting) (world : World) (old : Moment) (turns : List Turn) (new : Moment) (run : Run g world old turns new) (bytes : FileBytes) (number : ℕ)
+    → AreNumbered old.state.fuse.writables → StandFor old.state.fuse.writables bytes → AreClear g world old turns new run bytes
+    → Agrees old.told.held old.state.fuse.writables bytes number → Agrees new.told.held new.state.fuse.writables (bytes_through g world old turns new run bytes) number
 
 -- The defined answer to a request on a writable file, with its cause. Want of memory alone may stand in its place, or cut a WRITE
 -- short: that of the host, or that of the room which a WRITE and another size take first.
@@ -157,20 +168,20 @@ pub data IsWriteDefined (bytes : FileBytes) (scarce : Bool) : Result Aim Errno �
   no_room : (number : ℕ) (f : WritableFile) (offset : ℕ) (new : List ℕ) → IsWriteDefined bytes scarce (Ok (writes number f offset new)) (refused Enomem) None
   no_cut_room : (number : ℕ) (f : WritableFile) (node size : ℕ) → IsWriteDefined bytes scarce (Ok (cuts number f node size)) (refused Enomem) None
 
--- a request on a writable file
-abbrev pub IsOnWritable : Result Aim Errno → Type 0
-IsOnWritable (Ok (loads number f offset size)) = Unit {0}
-IsOnWritable (Ok (writes number f offset new)) = Unit {0}
-IsOnWritable (Ok (cuts number f node size)) = Unit {0}
-IsOnWritable (Ok (syncs number f)) = Unit {0}
-IsOnWritable (Ok (says x)) = ⊥
-IsOnWritable (Ok (makes x)) = ⊥
-IsOnWritable (Ok (reads f offset size)) = ⊥
-IsOnWritable (Err e) = ⊥
+-- a request on a writable file of which the host holds the bytes
+abbrev pub IsHeldBy : Result Aim Errno → Option Held → FileBytes → Type 0
+IsHeldBy (Ok (loads number f offset size)) held bytes = IsAtHost held f.file (bytes number)
+IsHeldBy (Ok (writes number f offset new)) held bytes = IsAtHost held f.file (bytes number)
+IsHeldBy (Ok (cuts number f node size)) held bytes = IsAtHost held f.file (bytes number)
+IsHeldBy (Ok (syncs number f)) held bytes = IsAtHost held f.file (bytes number)
+IsHeldBy (Ok (says x)) held bytes = ⊥
+IsHeldBy (Ok (makes x)) held bytes = ⊥
+IsHeldBy (Ok (reads f offset size)) held bytes = ⊥
+IsHeldBy (Err e) held bytes = ⊥
 
 -- Law: over a host that holds a file's bytes, where no call failed or it is honest, a request on the file has its defined answer.
 abbrev pub WritesAreServed : Type 0
 WritesAreServed = (g : Setting) (world : World) (old : Moment) (turn : Turn) (new : Moment) (bytes : FileBytes) (m : Result Message Bad)
-    → Step g world old turn new → request_of turn.frame ≡ message_of m → IsOnWritable (aim_of old.state.fuse m)
-    → StandFor old.state.fuse.writables bytes → IsClear old.state turn bytes → Agree old.told.held old.state.fuse.writables bytes → IsCalm old turn
+    → Step g world old turn new → request_of turn.frame ≡ message_of m → IsHeldBy (aim_of old.state.fuse m) old.told.held bytes
+    → StandFor old.state.fuse.writables bytes → IsClear old.state turn bytes → IsCalm old turn
     → (answer : Answer) × (turn.sent ≡ message_sent (number_of m) answer) × IsWriteDefined bytes new.told.scarce (aim_of old.state.fuse m) answer turn.cause
