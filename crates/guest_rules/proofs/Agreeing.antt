@@ -1,15 +1,15 @@
 -- What a host that holds the bytes of the writable files holds after a request.
-use Rattle.std.proofs.Common.{◌≡◌, ◌≢◌, ℕ, Bool, true, false, ◌+◌, ◌-◌, ◌*◌, min, List, [], ◌∷◌, refl, ap, sym, subst, ◌∙◌, Option, Some, None, Result, Ok, Err, arith, inl, inr, ⊎_elim, eq-eqb}
+use Rattle.std.proofs.Common.{◌≡◌, ◌≢◌, ℕ, Bool, true, false, List, [], ◌∷◌, refl, ap, sym, subst, ◌∙◌, Option, Some, None, Result, Ok, Err, arith, inl, inr, ⊎_elim}
 use Rattle.std.specs.Prelude.{◌⊎◌, nat_eq}
-use Rattle.std.proofs.lemmas.Map.{update_same, update_other}
+use Rattle.std.proofs.lemmas.Map.{update_other}
 use Rattle.std.proofs.lemmas.Bool.Decides.{nat_tests}
 use Rattle.mg_base.specs.declared.errno.Errno.{Errno}
 use Rattle.host_traits.specs.declared.calls.Call.{Call}
-use Rattle.host_traits.specs.declared.calls.Call.TheVariants.{BlockRead, BlockWrite, FileRead, FileWrite, Resize}
+use Rattle.host_traits.specs.declared.calls.Call.TheVariants.{BlockWrite, FileRead, FileWrite, Resize}
 use Rattle.host_traits.specs.declared.calls.Said.{Said}
 use Rattle.host_traits.specs.declared.calls.Said.TheVariants.{Done}
-use Rattle.host_traits.specs.Held.{Held, Disk, File, serve, found, when, with_file, over, resized}
-use Rattle.host_traits.specs.Told.{Told, Made, Talked, HeldAfter, Serves, ServesAll, heard_of}
+use Rattle.host_traits.specs.Held.{Held, File, serve, found, when, with_file, over, resized}
+use Rattle.host_traits.specs.Told.{Told, Made, Talked, HeldAfter, Serves, ServesAll}
 use Rattle.host_traits.specs.Did.{Each}
 use Rattle.host_traits.proofs.Doing.{each_so}
 use Rattle.sha_tree.specs.Tree.{ancestor}
@@ -17,11 +17,11 @@ use Rattle.verity_path.specs.Range.{IsForRead}
 use Rattle.verity_path.specs.declared.walk.Layout.{Layout}
 use Rattle.sha_tree.specs.declared.measure.Measure.{Measure}
 use Rattle.rw_file.specs.Contents.{IsAtHost}
-use Rattle.fuse_server.specs.State.{State as Fuse, WritableFile, Writables, writable_at, replaced}
+use Rattle.fuse_server.specs.State.{State as Fuse}
 use Rattle.fuse_server.specs.Aims.{Aim, says, makes, reads, loads, writes, cuts, syncs, aim_of}
 use Rattle.fuse_server.specs.Rows.{IsForFuse}
 use Rattle.fuse_server.specs.Serving.{AreNumbered}
-use Rattle.guest_rules.specs.Machine.{Setting, State, Moment, Turn, Request, message_of, read_of, get_of, put_of, request_of, Instance}
+use Rattle.guest_rules.specs.Machine.{Setting, State, Moment, Request, message_of, read_of, get_of, put_of, request_of, Instance}
 use Rattle.instance_image.specs.declared.values.Part.{Part}
 use Rattle.guest_rules.specs.RecordRow.{IsForGet, IsForPut}
 use Rattle.guest_rules.specs.MessageRow.{Heard}

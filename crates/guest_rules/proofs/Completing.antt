@@ -1,5 +1,5 @@
 -- Requests on a writable file over a host that holds its bytes, where no call failed or it is honest.
-use Rattle.std.proofs.Common.{◌≡◌, ℕ, ◌+◌, ◌≤◌, true, List, length, take, drop, refl, ap, sym, subst, ◌∙◌, Option, Some, None, Result, Ok, Err, arith, inl, inr, ⊎_elim}
+use Rattle.std.proofs.Common.{◌≡◌, ℕ, ◌+◌, ◌≤◌, true, List, length, take, drop, refl, ap, sym, subst, ◌∙◌, Option, Some, None, Result, Ok, Err, arith, inr, ⊎_elim}
 use Rattle.std.specs.Prelude.{◌⊎◌}
 use Rattle.mg_base.specs.declared.errno.Errno.{Errno}
 use Rattle.host_traits.specs.declared.calls.Call.{Call}
@@ -7,7 +7,6 @@ use Rattle.host_traits.specs.Told.{Told, Made, Talked, heard_of, failures_of}
 use Rattle.host_traits.specs.Did.{Trace, Each, IsFailed, trace_of}
 use Rattle.host_traits.proofs.Doing.{each_so}
 use Rattle.sha_tree.specs.Path.{NoClash}
-use Rattle.session_frames.specs.Replies.{Sent, message_sent}
 use Rattle.verity_path.specs.declared.device.Cause.{Cause}
 use Rattle.verity_path.specs.declared.walk.WalkFault.{WalkFault}
 use Rattle.verity_path.specs.declared.walk.WalkFault.TheVariants as walk
@@ -19,17 +18,16 @@ use Rattle.rw_file.specs.Calls.{IsForFileRead, IsForFileWrite, IsForCut}
 use Rattle.rw_file.specs.Contents.{IsVersion, Only, IsFileHashed, IsAtHost, version}
 use Rattle.rw_file.specs.Rows.{ReadOutcome, WriteOutcome, WrittenSays, CutOutcome, SyncOutcome}
 use Rattle.rw_file.proofs.Failing.{OnFile, stays, read_on, write_on, cut_on}
-use Rattle.fuse_codec.specs.Message.{Message, Bad}
 use Rattle.fuse_codec.specs.Reply.{Answer, bytes_out, attributes, empty}
-use Rattle.fuse_server.specs.State.{State as Fuse, WritableFile, writable_at, attr_of_size}
+use Rattle.fuse_server.specs.State.{State as Fuse, WritableFile, attr_of_size}
 use Rattle.fuse_server.specs.Aims.{Aim, says, makes, reads, loads, writes, cuts, syncs, aim_of, number_of}
-use Rattle.fuse_server.specs.FileRows.{IsLocal, meaning_of, LoadRow, WriteRow, CutRow, SyncRow, answer_if, cause_if, written_answer, written_cause, short_cause}
+use Rattle.fuse_server.specs.FileRows.{IsLocal, meaning_of, answer_if, cause_if, written_answer, written_cause, short_cause}
 use Rattle.fuse_server.specs.Rows.{FuseRow, IsForFuse}
 use Rattle.fuse_server.proofs.Keeping.{OfFiles, all_of}
 use Rattle.fuse_codec.specs.Reply as reply
-use Rattle.guest_rules.specs.Machine.{Setting, State, Moment, Turn, Request, message_of, request_of}
+use Rattle.guest_rules.specs.Machine.{Request}
 use Rattle.guest_rules.specs.MessageRow.{around_message}
-use Rattle.guest_rules.specs.Step.{Step, IsFor, heard_around, heard_in}
+use Rattle.guest_rules.specs.Step.{IsFor, heard_around, heard_in}
 use Rattle.guest_rules.specs.Written.{FileBytes, StandFor, count_of, answer_in, IsClearBy, IsRequestClear, IsHeldBy, IsWriteDefined, loaded, wrote, ended_early, cut, synced, no_memory, no_room, no_cut_room, WritesAreServed}
 use Rattle.guest_rules.proofs.Serving.{message_row}
 use Rattle.guest_rules.proofs.Writing.{answer_is}

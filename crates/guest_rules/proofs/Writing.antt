@@ -1,6 +1,6 @@
 -- What a request makes of the bytes of the writable files, and what is read of them.
-use Rattle.std.proofs.Common.{◌≡◌, ◌≢◌, ℕ, ◌+◌, Bool, true, false, List, [], ◌∷◌, ◌++◌, length, take, drop, refl, ap, sym, subst, ◌∙◌, Option, Some, None, Result, Ok, Err, arith, inl, inr, ⊎_elim}
-use Rattle.std.specs.Prelude.{◌⊎◌, nat_eq, cond, if◌then◌else◌, ◌==◌, IsSome}
+use Rattle.std.proofs.Common.{◌≡◌, ◌≢◌, ℕ, ◌+◌, Bool, true, false, List, [], ◌∷◌, ◌++◌, length, refl, ap, sym, subst, ◌∙◌, Option, Some, None, Result, Ok, Err, arith, inl, inr, ⊎_elim}
+use Rattle.std.specs.Prelude.{◌⊎◌, nat_eq, cond, IsSome}
 use Rattle.std.specs.Ordering.{nat_cmp, is_eq, eq_by_cmp}
 use Rattle.std.specs.BTreeMap.{is_at}
 use Rattle.std.proofs.lemmas.Cmp.{nat_cmp_total, eq_by_cmp_equiv}
@@ -11,7 +11,7 @@ use Rattle.mg_base.specs.declared.errno.Errno.{Errno}
 use Rattle.host_traits.specs.Held.{Held, resized}
 use Rattle.host_traits.specs.declared.calls.Call.{Call}
 use Rattle.host_traits.specs.declared.calls.Said.{Said}
-use Rattle.host_traits.specs.Told.{Told, Exchanges, Made, Talked, HeldAfter, ServesAll, heard_of, exchange_of, failures_of, one_failure}
+use Rattle.host_traits.specs.Told.{Told, Made, Talked, HeldAfter, ServesAll, heard_of, exchange_of, failures_of, one_failure}
 use Rattle.host_traits.specs.Did.{Trace}
 use Rattle.sha_tree.specs.Path.{NoClash}
 use Rattle.session_frames.specs.Replies.{Sent, message_sent}
@@ -23,19 +23,17 @@ use Rattle.rw_file.specs.declared.faults.RwFault.TheVariants as fault
 use Rattle.rw_file.specs.declared.faults.Written.{Written}
 use Rattle.rw_file.specs.Contents.{IsVersion, Only, IsFileHashed, IsAtHost, IsSame, version}
 use Rattle.rw_file.specs.Rows.{IsNow, IsNowOr, IsUncounted, IsStopped, IsUncut, ReadOutcome, WriteOutcome, WrittenSays, CutOutcome, SyncOutcome}
-use Rattle.fuse_codec.specs.Message.{Message, Bad}
 use Rattle.fuse_codec.specs.Reply as reply
 use Rattle.fuse_codec.specs.Reply.{Answer, bytes_out, attributes, empty, refused}
 use Rattle.fuse_server.specs.State.{State as Fuse, WritableFile, Writables, writable_at, replaced, attr_of_size}
 use Rattle.fuse_server.specs.Aims.{Aim, says, makes, reads, loads, writes, cuts, syncs, aim_of, number_of}
-use Rattle.fuse_server.specs.FileRows.{Around, IsLocal, meaning_of, IsReplaced, LoadRow, WriteRow, CutRow, SyncRow, answer_if, written_answer, errno_of}
+use Rattle.fuse_server.specs.FileRows.{IsLocal, meaning_of, IsReplaced, LoadRow, WriteRow, CutRow, SyncRow, answer_if, written_answer}
 use Rattle.fuse_server.specs.Rows.{FuseRow}
 use Rattle.fuse_server.proofs.Keeping.{OfFiles, all_of}
 use Rattle.instance_image.specs.Sealings.{Sealing}
 use Rattle.guest_rules.specs.Machine.{Setting, World, State, Moment, Turn, Request, message_of, read_of, get_of, put_of, request_of}
 use Rattle.guest_rules.specs.MessageRow.{Heard, IsCutFrom, around_message}
 use Rattle.guest_rules.specs.Step.{Step, Row, heard_in}
-use Rattle.guest_rules.specs.Run.{Run}
 use Rattle.guest_rules.specs.Written.{FileBytes, StandFor, put_at, count_of, cut_to, bytes_by, answer_in, request_bytes, bytes_after, IsClearBy, IsRequestClear, IsClear, IsSliceBy, IsRequestRead, IsRead, WritesAreRead}
 use Rattle.guest_rules.proofs.Standing.{put_keeps}
 
