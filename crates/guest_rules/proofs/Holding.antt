@@ -31,7 +31,7 @@ when_same true h k answer said e = sym (pair_is (answer, h) (said, k) e).1
 when_same false h k answer said e = cc
 
 -- a read changes nothing that is held
-reading_keeps : (h k : Held) (call : Call) (given : List ℕ) (said : Said) → IsReading call → serve h call given ≡ Some (said, k) → k ≡ h
+pub reading_keeps : (h k : Held) (call : Call) (given : List ℕ) (said : Said) → IsReading call → serve h call given ≡ Some (said, k) → k ≡ h
 unfolding serve
 reading_keeps h k call given said (of_blocks disk sector count) e =
     found_same (h.disk disk) _ h k said (λ d is. when_same _ h k _ said is) e

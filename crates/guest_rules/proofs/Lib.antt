@@ -5,3 +5,6 @@ pub mod Devices
 pub mod Serving
 pub mod Exact
 pub mod Reading
+pub mod Writing
+pub mod Agreeing
+pub mod Completing

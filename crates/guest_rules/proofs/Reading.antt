@@ -23,7 +23,7 @@ use Rattle.verity_path.specs.Range.{IsForRead, IsReadBlame}
 use Rattle.verity_path.specs.declared.states.Mismatch.{Mismatch}
 use Rattle.verity_path.specs.declared.walk.Layout.{Layout}
 use Rattle.verity_path.specs.declared.device.Cause.{Cause}
-use Rattle.verity_path.specs.declared.device.Cause.TheVariants.{Mismatch as OfMismatch, Short, Failed, Tag, Changed}
+use Rattle.verity_path.specs.declared.device.Cause.TheVariants.{Mismatch as OfMismatch, Short, Failed, Tag, Changed, Memory}
 use Rattle.verity_path.proofs.Asking.{kind_asked}
 use Rattle.verity_path.proofs.Blaming.{mismatch_lies}
 use Rattle.guest_rules.proofs.Devices.{page_reads, page_serves, page_held}
@@ -96,6 +96,7 @@ module _ (h : Held) (layout : Layout) (m : Measure) (size offset len : ℕ) (con
     not_blamed calm (Failed faults) blame = let failed = blame.failed in absurd (omega (arith, calm, failed))
     not_blamed calm (Tag found) blame = blame
     not_blamed calm (Changed sector) blame = blame
+    not_blamed calm Memory blame = blame
 
   module _ (old new : Told) (own : List Made) (talked : Talked old new own) (told : old.held ≡ Some h) (each : Each (reads For) own) where
     pub after : (k : Held) × (new.held ≡ Some k) × (k ≡ h) × AreServed h (heard_of own)

@@ -13,13 +13,13 @@ use Rattle.host_traits.proofs.Prefixes.{appends_then}
 use Rattle.verity_path.specs.declared.device.Cause.{Cause}
 use Rattle.instance_image.specs.Sealings.{Sealing}
 use Rattle.guest_rules.specs.Machine.{Setting, State, Moment, moment, Turn, nowhere, request_of}
-use Rattle.guest_rules.specs.Step.{IsFor, most_for, seals, Row, Stepped}
+use Rattle.guest_rules.specs.Step.{IsFor, most_for, seals, Row, Stepped, heard_around}
 use Rattle.guest_rules.specs.Run.{IsEarly, Run, Runs, Ran, calls_of, out_bytes, log_line, log_bytes, frame_size, frames_of}
 
 -- a request by the work that was done for it
 pub stepped : (g : Setting) (old_state new_state : State) (a b : Told) (frame : Framed) (sent : Sent) (cause : Option Cause) (F : Call → List ℕ → Type 0) (most : ℕ) (P : Trace → Type 0)
     → DidBy F most a b P → ((call : Call) (given : List ℕ) → F call given → IsFor g old_state (request_of frame) call given) → most ≤ most_for g old_state (request_of frame)
-    → ((run : List Sealing) (own : Exchanges) (failed : ℕ) → P (trace_of own failed a b) → Row g nowhere run (trace_of own failed a b) (request_of frame) old_state new_state sent cause)
+    → ((run : List Sealing) (own : Exchanges) (failed : ℕ) → P (trace_of own failed a b) → Row g nowhere run (heard_around (trace_of own failed a b) a b) (request_of frame) old_state new_state sent cause)
     → Stepped g old_state new_state a b frame sent cause
 stepped g old_state new_state a b frame sent cause F most P d for few row = record {
   own = d.own;
@@ -56,8 +56,8 @@ log_both : (at : ℕ) (xs ys : List Turn) → log_bytes at (xs ++ ys) ≡ log_by
 log_both at [] ys = ap (λ n. log_bytes n ys) (let e : at ≡ at + 0 = omega arith in e)
 log_both at (t ∷ xs) ys =
     let place : at + frame_size t.frame + turns_size xs ≡ at + (frame_size t.frame + turns_size xs) = omega arith in
-    ap (λ z. log_line at t.cause ++ z) (log_both (at + frame_size t.frame) xs ys ∙ ap (λ n. log_bytes (at + frame_size t.frame) xs ++ log_bytes n ys) place)
-    ∙ sym (append_assoc (log_line at t.cause) (log_bytes (at + frame_size t.frame) xs) (log_bytes (at + (frame_size t.frame + turns_size xs)) ys))
+    ap (λ z. log_line at t.sent t.cause ++ z) (log_both (at + frame_size t.frame) xs ys ∙ ap (λ n. log_bytes (at + frame_size t.frame) xs ++ log_bytes n ys) place)
+    ∙ sym (append_assoc (log_line at t.sent t.cause) (log_bytes (at + frame_size t.frame) xs) (log_bytes (at + (frame_size t.frame + turns_size xs)) ys))
 
 run_both : (g : Setting) (old : Moment) (xs : List Turn) (mid : Moment) (ys : List Turn) (new : Moment) → Run g nowhere old xs mid → Run g nowhere mid ys new → Run g nowhere old (xs ++ ys) new
 run_both g old [] mid ys new e r = subst (λ m. Run g nowhere m ys new) (sym e) r
@@ -123,10 +123,10 @@ ran_both g r s t a b c at out_a out_b out_c log_a log_b log_c xs ys p q = record
 -- one frame, its line and its reply written
 pub ran_one : (g : Setting) (s t : State) (b c : Told) (at : ℕ) (out_b out_c log_b log_c : Option (List ℕ)) (frame : Framed) (sent : Sent) (cause : Option Cause)
     → (step : Stepped g s t b c frame sent cause) → IsEarly b.heard
-    → Appends out_b out_c (reply_frame sent) → Appends log_b log_c (log_line at cause)
+    → Appends out_b out_c (reply_frame sent) → Appends log_b log_c (log_line at sent cause)
     → Ran g s t b c at out_b out_c log_b log_c (turn_of g s t b c frame sent cause step ∷ [])
 ran_one g s t b c at out_b out_c log_b log_c frame sent cause step few out log = record {
   runs = runs_one g s t b c frame sent cause step few;
   written = rw (append-nil (reply_frame sent)) out;
-  logged = rw (append-nil (log_line at cause)) log;
+  logged = rw (append-nil (log_line at sent cause)) log;
 }

@@ -23,12 +23,13 @@ use Rattle.ro_file.specs.Files.{MeasuredFile, layout_of}
 use Rattle.fuse_codec.specs.Message.{Message, Bad}
 use Rattle.fuse_codec.specs.Reply.{Answer}
 use Rattle.fuse_server.specs.Aims.{Aim, reads, aim_of, number_of}
+use Rattle.fuse_server.specs.FileRows.{Around}
 use Rattle.fuse_server.specs.Rows.{FuseRow, ReadRow, read_bytes, read_blamed, read_no_room, IsForFuse, IsFileRead}
 use Rattle.instance_image.specs.Sealings.{Sealing}
 use Rattle.guest_rules.specs.Machine.{Setting, World, State, Moment, Turn, ItemRead, Request, message_of, read_of, request_of, IsItem, size_of}
 use Rattle.guest_rules.specs.ItemRow.{IsForItem, ItemRow, no_item, too_large, served, blamed, no_memory}
-use Rattle.guest_rules.specs.MessageRow.{MessageRow}
-use Rattle.guest_rules.specs.Step.{Step, IsFor, Row, trace}
+use Rattle.guest_rules.specs.MessageRow.{Heard, MessageRow, around_message}
+use Rattle.guest_rules.specs.Step.{Step, IsFor, Row, trace, heard_in}
 use Rattle.guest_rules.specs.Run.{IsWorld}
 use Rattle.guest_rules.specs.Faithful.{HoldsDevice, IsDefined, over_limit, whole, no_room, IsReadDefined, slice, no_memory as short_of_memory, ReadsAreServed, FileReadsAreServed}
 use Rattle.guest_rules.proofs.Standing.{Known, item_apart, file_apart, readable, world_last, known_last, known_by}
@@ -49,10 +50,10 @@ slice_is (Some other) content t it r bytes is s =
     ap (λ x. take r.size (drop r.offset x)) same ∙ sym s
 
 -- the item's row of a read
-row_of : (g : Setting) (world : World) (run : List Sealing) (t : Trace) (request : Request) (old new : State) (sent : Sent) (cause : Option Cause) (r : ItemRead) → request ≡ read_of r
-    → Row g world run t request old new sent cause → ItemRow g.items world t r sent cause
-row_of g world run t request old new sent cause r e row =
-    (subst (λ q. Row g world run t q old new sent cause) e row).1
+row_of : (g : Setting) (world : World) (run : List Sealing) (h : Heard) (request : Request) (old new : State) (sent : Sent) (cause : Option Cause) (r : ItemRead) → request ≡ read_of r
+    → Row g world run h request old new sent cause → ItemRow g.items world h.trace r sent cause
+row_of g world run h request old new sent cause r e row =
+    (subst (λ q. Row g world run h q old new sent cause) e row).1
 
 -- the calls of a read are those for its item
 pub calls_of : (g : Setting) (s : State) (request : Request) (r : ItemRead) (it : Device) (call : Call) (given : List ℕ) → request ≡ read_of r → slice_get g.items r.item ≡ Some it
@@ -91,7 +92,7 @@ defined_over g world old turn new h r it content step request at item is w truly
     (calls_of g old.state _ r it call c.0 request at c.1).0 in
     let nothing = not_blamed h it.layout it.measure (size_of it) r.offset r.size content tree item.most (inside_item it) holds (trace old turn new)
     (item_apart g old.state world (heard_of turn.own) r.item it content at is own) truly for none in
-    defined g old.state world (trace old turn new) h r it content at item is own for nothing turn.sent turn.cause (row_of g world old.sealings (trace old turn new) _ old.state new.state turn.sent turn.cause r request step.row)
+    defined g old.state world (trace old turn new) h r it content at item is own for nothing turn.sent turn.cause (row_of g world old.sealings (heard_in old turn new) _ old.state new.state turn.sent turn.cause r request step.row)
 
 pub all_served : ReadsAreServed
 all_served g world old turn new h r it content step request at item is w told holds calm =
@@ -107,20 +108,20 @@ all_served g world old turn new h r it content step request at item is w told ho
 -- ---- READs of files
 
 -- the row of a message
-message_row : (g : Setting) (world : World) (run : List Sealing) (t : Trace) (request : Request) (old new : State) (sent : Sent) (cause : Option Cause) (m : Result Message Bad)
-    → request ≡ message_of m → Row g world run t request old new sent cause → MessageRow world t m old.fuse new.fuse sent cause
-message_row g world run t request old new sent cause m e row =
-    (subst (λ q. Row g world run t q old new sent cause) e row).2
+pub message_row : (g : Setting) (world : World) (run : List Sealing) (h : Heard) (request : Request) (old new : State) (sent : Sent) (cause : Option Cause) (m : Result Message Bad)
+    → request ≡ message_of m → Row g world run h request old new sent cause → MessageRow world h m old.fuse new.fuse sent cause
+message_row g world run h request old new sent cause m e row =
+    (subst (λ q. Row g world run h q old new sent cause) e row).2
 
 -- the calls of a READ are those for its file
 file_calls_of : (g : Setting) (s : State) (request : Request) (m : Result Message Bad) (f : MeasuredFile) (offset size : ℕ) (call : Call) (given : List ℕ) → request ≡ message_of m
     → aim_of s.fuse m ≡ Ok (reads f offset size) → IsFor g s request call given → reading (IsFileRead f offset size) call given
 file_calls_of g s request m f offset size call given e aim c =
-    subst (λ (a : Result Aim Errno). reading (IsForFuse a) call given) aim (subst (λ q. IsFor g s q call given) e c)
+    subst (λ (a : Result Aim Errno). IsForFuse a call given) aim (subst (λ q. IsFor g s q call given) e c)
 
-read_row : (m : Result Message Bad) (s : State) (t : Trace) (a : Answer) (c : Option Cause) (f : MeasuredFile) (offset size : ℕ)
-    → aim_of s.fuse m ≡ Ok (reads f offset size) → FuseRow (aim_of s.fuse m) t a c → ReadRow f offset size t a c
-read_row m s t a c f offset size aim row = subst (λ (z : Result Aim Errno). FuseRow z t a c) aim row
+read_row : (m : Result Message Bad) (s : State) (a : Around) (answer : Answer) (c : Option Cause) (f : MeasuredFile) (offset size : ℕ)
+    → aim_of s.fuse m ≡ Ok (reads f offset size) → FuseRow (aim_of s.fuse m) a answer c → ReadRow f offset size a.trace answer c
+read_row m s a answer c f offset size aim row = (subst (λ (z : Result Aim Errno). FuseRow z a answer c) aim row).1
 
 module _ (f : MeasuredFile) (offset size : ℕ) (t : Trace) (content : List ℕ) (tree : HasTree f.measure content) (size_is : f.size ≡ length content)
     (apart : NoClash (IsHashed t.own content f.measure.salt)) (nothing : (cause : Cause) → IsReadBlame (layout_of f) f.measure (IsFileRead f offset size) t cause → ⊥) (unique : ℕ) where
@@ -150,8 +151,8 @@ files_served g world old turn new h m n f offset size c step request aim there i
     let none = calm_by h (layout_of f) f.measure f.size offset size c.content tree limit inside holds old.told new.told turn.own step.talked told each calm in
     let a = after h (layout_of f) f.measure f.size offset size c.content tree limit inside holds old.told new.told turn.own step.talked told each in
     let nothing = not_blamed h (layout_of f) f.measure f.size offset size c.content tree limit inside holds (trace old turn new) apart a.3 for none in
-    let row = message_row g world old.sealings (trace old turn new) _ old.state new.state turn.sent turn.cause m request step.row in
-    let answer = read_row m old.state (trace old turn new) row.answer turn.cause f offset size aim row.row in (
+    let row = message_row g world old.sealings (heard_in old turn new) _ old.state new.state turn.sent turn.cause m request step.row in
+    let answer = read_row m old.state (around_message (heard_in old turn new) old.state.fuse new.state.fuse) row.answer turn.cause f offset size aim row.row in (
       subst (λ (z : Sent). IsReadDefined (number_of m) offset size c.content new.told.scarce z turn.cause) (sym row.sent_is)
           (file_defined f offset size (trace old turn new) c.content tree content_of.size apart nothing (number_of m) row.answer turn.cause answer),
       stays h (layout_of f) f.measure f.size offset size c.content tree limit inside holds old.told new.told turn.own step.talked told each,

@@ -22,7 +22,8 @@ use Rattle.ro_file.specs.Opening.{WasOpened}
 use Rattle.ro_file.specs.Contents.{IsContentOf, IsHeardDescriptor, IsFileHashed as IsHashedOfFile}
 use Rattle.ro_file.proofs.Standing.{are_measured, opened_left}
 use Rattle.fuse_codec.specs.Reply.{Answer, refused, bytes_out}
-use Rattle.fuse_server.specs.Aims.{Aim, says, makes, reads, aim_of}
+use Rattle.fuse_server.specs.Aims.{Aim, says, makes, reads, loads, writes, cuts, syncs, aim_of}
+use Rattle.fuse_server.specs.FileRows.{Around}
 use Rattle.fuse_server.specs.Rows.{FuseRow, ReadRow, read_bytes, read_blamed, read_no_room}
 use Rattle.fuse_server.proofs.Keeping.{files_stay, aim_file}
 use Rattle.fuse_server.specs.State.{State as Fuse, file_at}
@@ -33,9 +34,9 @@ use Rattle.instance_image.specs.Access.{GetOutcome}
 use Rattle.instance_image.proofs.Promises.{was_sealed}
 use Rattle.guest_rules.specs.Machine.{Instance, Setting, State, World, Salted, nowhere, Moment, Turn, ItemRead, Request, message_of, read_of, get_of, put_of, request_of, size_of, image_with}
 use Rattle.guest_rules.specs.ItemRow.{ItemRow, no_item, too_large, served, blamed, no_memory}
-use Rattle.guest_rules.specs.MessageRow.{IsSliceOf, IsOfFile}
+use Rattle.guest_rules.specs.MessageRow.{Heard, IsSliceOf, IsOfFile}
 use Rattle.guest_rules.specs.RecordRow.{GetRow, PutRow, no_image, got, refused as put_refused, no_entropy, put, IsKnownText}
-use Rattle.guest_rules.specs.Step.{Step, Row}
+use Rattle.guest_rules.specs.Step.{Step, Row, heard_in}
 use Rattle.guest_rules.specs.Run.{Run, IsRunHashed, IsFile, IsWorld, AreOpened, HeardOnlySealed, AreSealed, RunsStand}
 
 -- ---- what is known of contents, where this was heard
@@ -213,15 +214,19 @@ module _ (g : Setting) (world : World) where
     read_in t n f offset size answer cause same there w (read_blamed c blame order right) = not_bytes (world.file f.file) offset size _
     read_in t n f offset size answer cause same there w (read_no_room scarce order right) = not_bytes (world.file f.file) offset size _
 
-    aim_in : (t : Trace) (aim : Result Aim Errno) (answer : Answer) (cause : Option Cause) → t.heard ≡ t.own
-        → ((f : MeasuredFile) (offset size : ℕ) → aim ≡ Ok (reads f offset size) → (n : ℕ) × IsFile s n f) → Known g s world t.heard
-        → FuseRow aim t answer cause → IsOfFile world aim answer
-    aim_in t (Err e) answer cause same there w row = tt
-    aim_in t (Ok (says a)) answer cause same there w row = tt
-    aim_in t (Ok (makes a)) answer cause same there w row = tt
-    aim_in t (Ok (reads f offset size)) answer cause same there w row =
+    aim_in : (a : Around) (aim : Result Aim Errno) (answer : Answer) (cause : Option Cause) → a.trace.heard ≡ a.trace.own
+        → ((f : MeasuredFile) (offset size : ℕ) → aim ≡ Ok (reads f offset size) → (n : ℕ) × IsFile s n f) → Known g s world a.trace.heard
+        → FuseRow aim a answer cause → IsOfFile world aim answer
+    aim_in a (Err e) answer cause same there w row = tt
+    aim_in a (Ok (says x)) answer cause same there w row = tt
+    aim_in a (Ok (makes x)) answer cause same there w row = tt
+    aim_in a (Ok (loads number f offset size)) answer cause same there w row = tt
+    aim_in a (Ok (writes number f offset bytes)) answer cause same there w row = tt
+    aim_in a (Ok (cuts number f node size)) answer cause same there w row = tt
+    aim_in a (Ok (syncs number f)) answer cause same there w row = tt
+    aim_in a (Ok (reads f offset size)) answer cause same there w row =
         let at = there f offset size refl in
-        read_in t at.0 f offset size answer cause same at.1 w row
+        read_in a.trace at.0 f offset size answer cause same at.1 w row.1
 
     get_in : (run : List Sealing) (t : Trace) (uuid : List ℕ) (sent : Sent) (cause : Option Cause) → HeardOnlySealed g.image world.sealed run t.own
         → GetRow g.image s.parts nowhere run t uuid sent cause → GetRow g.image s.parts world run t uuid sent cause
@@ -229,22 +234,23 @@ module _ (g : Setting) (world : World) where
     get_in run t uuid sent cause sealed (got i result there outcome known) =
         got i result there outcome (text_known world.sealed run i s.parts uuid result t (subst (λ (o : Option Instance). HeardOnlySealed o world.sealed run t.own) there sealed) outcome)
 
-    row_in : (run : List Sealing) (t : Trace) (request : Request) (new : State) (sent : Sent) (cause : Option Cause) → t.heard ≡ t.own → Known g s world t.heard
-        → HeardOnlySealed g.image world.sealed run t.own → Row g nowhere run t request s new sent cause → Row g world run t request s new sent cause
-    row_in run t (message_of m) new sent cause same w sealed row = (
+    row_in : (run : List Sealing) (h : Heard) (request : Request) (new : State) (sent : Sent) (cause : Option Cause) → h.trace.heard ≡ h.trace.own
+        → Known g s world h.trace.heard → HeardOnlySealed g.image world.sealed run h.trace.own → Row g nowhere run h request s new sent cause
+        → Row g world run h request s new sent cause
+    row_in run h (message_of m) new sent cause same w sealed row = (
       row.0,
       row.1,
       record {
         answer = row.2.answer;
         sent_is = row.2.sent_is;
         row = row.2.row;
-        slice = aim_in t (aim_of s.fuse m) row.2.answer cause same (λ f offset size is. aim_file s.fuse m f offset size is) w row.2.row;
+        slice = aim_in _ (aim_of s.fuse m) row.2.answer cause same (λ f offset size is. aim_file s.fuse m f offset size is) w row.2.row;
         next = row.2.next;
       },
     )
-    row_in run t (read_of r) new sent cause same w sealed row = (row.0, item_in t r sent cause w.items (known_item_apart t w) row.1)
-    row_in run t (get_of uuid) new sent cause same w sealed row = (row.0, get_in run t uuid sent cause sealed row.1)
-    row_in run t (put_of uuid text) new sent cause same w sealed row = row
+    row_in run h (read_of r) new sent cause same w sealed row = (row.0, item_in h.trace r sent cause w.items (known_item_apart h.trace w) row.1)
+    row_in run h (get_of uuid) new sent cause same w sealed row = (row.0, get_in run h.trace uuid sent cause sealed row.1)
+    row_in run h (put_of uuid text) new sent cause same w sealed row = row
 
 -- a put changes no name, no handle and no file
 pub put_keeps : (image : Option Instance) (t : Trace) (uuid text : List ℕ) (old new : State) (sent : Sent) (cause : Option Cause) → PutRow image t uuid text old new sent cause
@@ -254,13 +260,13 @@ put_keeps image t uuid text old new sent cause (put_refused i why there fits qui
 put_keeps image t uuid text old new sent cause (no_entropy i part there fits few quiet same) = ap (λ (s : State). s.fuse) same
 put_keeps image t uuid text old new sent cause (put i part result there fits some outcome is) = ap (λ (s : State). s.fuse) is
 
--- no request changes the files
-pub files_kept : (g : Setting) (world : World) (run : List Sealing) (t : Trace) (request : Request) (old new : State) (sent : Sent) (cause : Option Cause)
-    → Row g world run t request old new sent cause → new.fuse.files ≡ old.fuse.files
-files_kept g world run t (message_of m) old new sent cause row = files_stay old.fuse m row.2.answer new.fuse row.2.next
-files_kept g world run t (read_of r) old new sent cause row = ap (λ (s : State). s.fuse.files) row.0
-files_kept g world run t (get_of uuid) old new sent cause row = ap (λ (s : State). s.fuse.files) row.0
-files_kept g world run t (put_of uuid text) old new sent cause row = ap (λ (f : Fuse). f.files) (put_keeps g.image t uuid text old new sent cause row)
+-- no request changes the read-only files
+pub files_kept : (g : Setting) (world : World) (run : List Sealing) (h : Heard) (request : Request) (old new : State) (sent : Sent) (cause : Option Cause)
+    → Row g world run h request old new sent cause → new.fuse.files ≡ old.fuse.files
+files_kept g world run h (message_of m) old new sent cause row = files_stay old.fuse m row.2.answer new.fuse row.2.next
+files_kept g world run h (read_of r) old new sent cause row = ap (λ (s : State). s.fuse.files) row.0
+files_kept g world run h (get_of uuid) old new sent cause row = ap (λ (s : State). s.fuse.files) row.0
+files_kept g world run h (put_of uuid text) old new sent cause row = ap (λ (f : Fuse). f.files) (put_keeps g.image h.trace uuid text old new sent cause row)
 
 -- what is hashed in one state is hashed in another of the same files
 back : (g : Setting) (s t : State) (world : World) (heard : Exchanges) → t.fuse.files ≡ s.fuse.files → (x : List ℕ) → IsRunHashed g t world heard x → IsRunHashed g s world heard x
@@ -306,7 +312,7 @@ module _ (g : Setting) (world : World) where
     calls = r.calls;
     few = r.few;
     stops = r.stops;
-    row = row_in g world old.state old.sealings _ (request_of t.frame) new.state t.sent t.cause refl w sealed r.row;
+    row = row_in g world old.state old.sealings (heard_in old t new) (request_of t.frame) new.state t.sent t.cause refl w sealed r.row;
   }
 
   run_in : (old : Moment) (turns : List Turn) (new : Moment) → Known g old.state world new.heard → (run : Run g nowhere old turns new) → AreSealed g world old turns new run

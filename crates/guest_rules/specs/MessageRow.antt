@@ -1,5 +1,5 @@
 -- The row of a message of FUSE: its reply, its cause, and the state after it.
-use Rattle.std.specs.Prelude.{◌≡◌, ℕ, take, drop, Option, Some, None, Result, Ok, Err}
+use Rattle.std.specs.Prelude.{◌≡◌, ℕ, List, take, drop, Option, Some, None, Result, Ok, Err}
 use Rattle.mg_base.specs.declared.errno.Errno.{Errno}
 use Rattle.host_traits.specs.Held.{Held}
 use Rattle.host_traits.specs.Did.{Trace}
@@ -20,20 +20,24 @@ pub record Heard : Type 0 where
   pub before : Option Held
   pub after : Option Held
 
--- where the content of a file is known, bytes that are answered are the content's from offset on, cut at its end
+-- bytes that are answered are a content's, from offset on, cut at its end
+abbrev pub IsCutFrom : List ℕ → ℕ → ℕ → Answer → Type 0
+IsCutFrom content offset size (bytes_out bytes) = bytes ≡ take size (drop offset content)
+IsCutFrom content offset size (refused errno) = Unit {0}
+IsCutFrom content offset size silent = Unit {0}
+IsCutFrom content offset size empty = Unit {0}
+IsCutFrom content offset size (entry out) = Unit {0}
+IsCutFrom content offset size (attributes attr) = Unit {0}
+IsCutFrom content offset size (opened handle) = Unit {0}
+IsCutFrom content offset size (created out handle) = Unit {0}
+IsCutFrom content offset size (written count) = Unit {0}
+IsCutFrom content offset size statfs_out = Unit {0}
+IsCutFrom content offset size (inited out) = Unit {0}
+
+-- the same where the content of a file is known
 abbrev pub IsSliceOf : Option Salted → ℕ → ℕ → Answer → Type 0
 IsSliceOf None offset size answer = Unit {0}
-IsSliceOf (Some c) offset size (bytes_out bytes) = bytes ≡ take size (drop offset c.content)
-IsSliceOf (Some c) offset size (refused errno) = Unit {0}
-IsSliceOf (Some c) offset size silent = Unit {0}
-IsSliceOf (Some c) offset size empty = Unit {0}
-IsSliceOf (Some c) offset size (entry out) = Unit {0}
-IsSliceOf (Some c) offset size (attributes attr) = Unit {0}
-IsSliceOf (Some c) offset size (opened handle) = Unit {0}
-IsSliceOf (Some c) offset size (created out handle) = Unit {0}
-IsSliceOf (Some c) offset size (written count) = Unit {0}
-IsSliceOf (Some c) offset size statfs_out = Unit {0}
-IsSliceOf (Some c) offset size (inited out) = Unit {0}
+IsSliceOf (Some c) offset size answer = IsCutFrom c.content offset size answer
 
 -- the same of what a message aims at: a READ of a read-only file
 abbrev pub IsOfFile : World → Result Aim Errno → Answer → Type 0

@@ -53,9 +53,12 @@ Row g world run h (put_of uuid text) old new sent cause = PutRow g.image h.trace
 abbrev pub trace : Moment → Turn → Moment → Trace
 trace old turn new = trace_of (heard_of turn.own) (failures_of turn.own) old.told new.told
 
--- the same with what the host told that it holds
+-- such answers, with what the host told that it holds
+abbrev pub heard_around : Trace → Told → Told → Heard
+heard_around t old new = record { trace = t; before = old.held; after = new.held }
+
 abbrev pub heard_in : Moment → Turn → Moment → Heard
-heard_in old turn new = record { trace = trace old turn new; before = old.told.held; after = new.told.held }
+heard_in old turn new = heard_around (trace old turn new) old.told new.told
 
 -- one request, from a moment to the next: these calls were made, and no other; each belongs to the request, and none follows one
 -- that failed; and what came of them

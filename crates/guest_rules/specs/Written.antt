@@ -1,5 +1,5 @@
 -- The bytes of the writable files in a run: what each request makes of them, and what is read.
-use Rattle.std.specs.Prelude.{◌≡◌, ◌⊎◌, ℕ, List, [], ◌∷◌, length, take, drop, Option, Some, None, Result, Ok, Err, ◌==◌, if◌then◌else◌}
+use Rattle.std.specs.Prelude.{Bool, true, ◌≡◌, ℕ, ◌+◌, ◌%◌, ◌<◌, List, [], ◌∷◌, length, take, drop, Option, Some, None, Result, Ok, Err, ◌==◌, if◌then◌else◌}
 use Rattle.mg_base.specs.declared.errno.Errno.{Errno}
 use Rattle.mg_base.specs.declared.errno.Errno.TheVariants.{Enomem}
 use Rattle.host_traits.specs.Held.{Held, resized}
@@ -16,6 +16,7 @@ use Rattle.fuse_server.specs.Aims.{Aim, says, makes, reads, loads, writes, cuts,
 use Rattle.fuse_server.specs.FileRows.{meaning_of}
 use Rattle.fuse_server.specs.Serving.{AreNumbered}
 use Rattle.guest_rules.specs.Machine.{Setting, World, State, Moment, Turn, Request, message_of, read_of, get_of, put_of, request_of}
+use Rattle.guest_rules.specs.MessageRow.{IsCutFrom}
 use Rattle.guest_rules.specs.Step.{Step}
 use Rattle.guest_rules.specs.Run.{Run}
 use Rattle.guest_rules.specs.Faithful.{IsCalm}
@@ -70,27 +71,27 @@ bytes_after s turn bytes = request_bytes s.fuse (request_of turn.frame) turn.sen
 
 -- ---- what is hashed
 
--- the versions that a message makes of the bytes of a file: those at first, and of a WRITE those after each block that was done
-abbrev pub IsVersionBy : Result Aim Errno → Answer → FileBytes → List ℕ → Type 0
-IsVersionBy (Ok (loads number f offset size)) answer bytes v = Only (bytes number) v
-IsVersionBy (Ok (writes number f offset new)) answer bytes v = IsVersion (bytes number) offset new (count_of answer) v
-IsVersionBy (Ok (cuts number f node size)) answer bytes v = Only (bytes number) v
-IsVersionBy (Ok (syncs number f)) answer bytes v = Only (bytes number) v
-IsVersionBy (Ok (says x)) answer bytes v = ⊥
-IsVersionBy (Ok (makes x)) answer bytes v = ⊥
-IsVersionBy (Ok (reads f offset size)) answer bytes v = ⊥
-IsVersionBy (Err e) answer bytes v = ⊥
+-- Where a message is a request on a writable file, no two different ones of what is hashed for it share a digest: the pages of the
+-- file's versions, which are its bytes, and of a WRITE those after each block that was done; those of files of zeros; and the pieces
+-- that were heard for it, without a salt.
+abbrev pub IsClearBy : Result Aim Errno → Answer → FileBytes → Exchanges → Type 0
+IsClearBy (Ok (loads number f offset size)) answer bytes own = NoClash (IsFileHashed (Only (bytes number)) own)
+IsClearBy (Ok (writes number f offset new)) answer bytes own = NoClash (IsFileHashed (IsVersion (bytes number) offset new (count_of answer)) own)
+IsClearBy (Ok (cuts number f node size)) answer bytes own = NoClash (IsFileHashed (Only (bytes number)) own)
+IsClearBy (Ok (syncs number f)) answer bytes own = NoClash (IsFileHashed (Only (bytes number)) own)
+IsClearBy (Ok (says x)) answer bytes own = Unit {0}
+IsClearBy (Ok (makes x)) answer bytes own = Unit {0}
+IsClearBy (Ok (reads f offset size)) answer bytes own = Unit {0}
+IsClearBy (Err e) answer bytes own = Unit {0}
 
-abbrev pub IsRequestVersion : Fuse → Request → Sent → FileBytes → List ℕ → Type 0
-IsRequestVersion s (message_of m) sent bytes v = IsVersionBy (aim_of s m) (answer_in sent) bytes v
-IsRequestVersion s (read_of r) sent bytes v = ⊥
-IsRequestVersion s (get_of uuid) sent bytes v = ⊥
-IsRequestVersion s (put_of uuid text) sent bytes v = ⊥
+abbrev pub IsRequestClear : Fuse → Request → Sent → FileBytes → Exchanges → Type 0
+IsRequestClear s (message_of m) sent bytes own = IsClearBy (aim_of s m) (answer_in sent) bytes own
+IsRequestClear s (read_of r) sent bytes own = Unit {0}
+IsRequestClear s (get_of uuid) sent bytes own = Unit {0}
+IsRequestClear s (put_of uuid text) sent bytes own = Unit {0}
 
--- No two different ones of what is hashed for a turn's writable file share a digest: the pages of its versions, those of files of
--- zeros, and the pieces that were heard in the turn, without a salt.
 abbrev pub IsClear : State → Turn → FileBytes → Type 0
-IsClear s turn bytes = NoClash (IsFileHashed (IsRequestVersion s.fuse (request_of turn.frame) turn.sent bytes) (heard_of turn.own))
+IsClear s turn bytes = IsRequestClear s.fuse (request_of turn.frame) turn.sent bytes (heard_of turn.own)
 
 -- the premise on digests: it is so of each turn
 abbrev pub AreClear : (g : Setting) (world : World) (old : Moment) (turns : List Turn) (new : Moment) → Run g world old turns new → FileBytes → Type 0
@@ -101,8 +102,14 @@ AreClear g world old (turn ∷ turns) new run bytes = IsClear old.state turn byt
 
 -- bytes that are answered to a READ of a writable file are its own, from offset on, cut at their end
 abbrev pub IsSliceBy : Result Aim Errno → Answer → FileBytes → Type 0
-IsSliceBy (Ok (loads number f offset size)) (bytes_out b) bytes = b ≡ take size (drop offset (bytes number))
-IsSliceBy aim answer bytes = Unit {0}
+IsSliceBy (Ok (loads number f offset size)) answer bytes = IsCutFrom (bytes number) offset size answer
+IsSliceBy (Ok (writes number f offset new)) answer bytes = Unit {0}
+IsSliceBy (Ok (cuts number f node size)) answer bytes = Unit {0}
+IsSliceBy (Ok (syncs number f)) answer bytes = Unit {0}
+IsSliceBy (Ok (says x)) answer bytes = Unit {0}
+IsSliceBy (Ok (makes x)) answer bytes = Unit {0}
+IsSliceBy (Ok (reads f offset size)) answer bytes = Unit {0}
+IsSliceBy (Err e) answer bytes = Unit {0}
 
 abbrev pub IsRequestRead : Fuse → Request → Sent → FileBytes → Type 0
 IsRequestRead s (message_of m) sent bytes = IsSliceBy (aim_of s m) (answer_in sent) bytes
@@ -126,41 +133,55 @@ WritesAreRead = (g : Setting) (world : World) (old : Moment) (turns : List Turn)
 
 -- ---- over a host that holds them
 
--- the host holds the bytes of each writable file
-abbrev pub Agree : Option Held → Writables → FileBytes → Type 0
-Agree held files bytes = (number : ℕ) (f : WritableFile) → writable_at files number ≡ Some f → IsAtHost held f.file (bytes number)
+-- the host holds the bytes of the writable file at a number, where there is one
+abbrev pub Agrees : Option Held → Writables → FileBytes → ℕ → Type 0
+Agrees held files bytes number = (f : WritableFile) → writable_at files number ≡ Some f → IsAtHost held f.file (bytes number)
 
--- Law: over a host that holds the bytes of the writable files, each request leaves it so, whatever fails: what the host holds of a
--- file is what was written with success.
+-- Law: where the host holds the bytes of a writable file, each request leaves it so, whatever fails: what the host holds of the file
+-- is what was written with success.
 abbrev pub HostsAgree : Type 0
-HostsAgree = (g : Setting) (world : World) (old : Moment) (turn : Turn) (new : Moment) (bytes : FileBytes)
+HostsAgree = (g : Setting) (world : World) (old : Moment) (turn : Turn) (new : Moment) (bytes : FileBytes) (number : ℕ)
     → Step g world old turn new → AreNumbered old.state.fuse.writables → StandFor old.state.fuse.writables bytes → IsClear old.state turn bytes
-    → Agree old.told.held old.state.fuse.writables bytes → Agree new.told.held new.state.fuse.writables (bytes_after old.state turn bytes)
+    → Agrees old.told.held old.state.fuse.writables bytes number → Agrees new.told.held new.state.fuse.writables (bytes_after old.state turn bytes) number
 
--- the defined answer to a request on a writable file, with its cause: a WRITE may be cut short by want of memory, and each may be
--- answered so
-pub data IsWriteDefined (bytes : FileBytes) : Result Aim Errno → Answer → Option Cause → Type 0 where
-  loaded : (number : ℕ) (f : WritableFile) (offset size : ℕ) → IsWriteDefined bytes (Ok (loads number f offset size)) (bytes_out (take size (drop offset (bytes number)))) None
-  wrote : (number : ℕ) (f : WritableFile) (offset : ℕ) (new : List ℕ) → IsWriteDefined bytes (Ok (writes number f offset new)) (written (length new)) None
-  ended_early : (number : ℕ) (f : WritableFile) (offset : ℕ) (new : List ℕ) (count : ℕ) → IsWriteDefined bytes (Ok (writes number f offset new)) (written count) (Some Memory)
-  cut : (number : ℕ) (f : WritableFile) (node size : ℕ) → IsWriteDefined bytes (Ok (cuts number f node size)) (attributes (attr_of_size node size)) None
-  synced : (number : ℕ) (f : WritableFile) → IsWriteDefined bytes (Ok (syncs number f)) empty None
-  no_memory : (aim : Result Aim Errno) → IsWriteDefined bytes aim (refused Enomem) None
+-- the bytes after some turns
+abbrev pub bytes_through : (g : Setting) (world : World) (old : Moment) (turns : List Turn) (new : Moment) → Run g world old turns new → FileBytes → FileBytes
+bytes_through g world old [] new run bytes = bytes
+bytes_through g world old (turn ∷ turns) new run bytes = bytes_through g world run.0 turns new run.3 (bytes_after old.state turn bytes)
 
--- a request on a writable file
-abbrev pub IsOnWritable : Result Aim Errno → Type 0
-IsOnWritable (Ok (loads number f offset size)) = Unit {0}
-IsOnWritable (Ok (writes number f offset new)) = Unit {0}
-IsOnWritable (Ok (cuts number f node size)) = Unit {0}
-IsOnWritable (Ok (syncs number f)) = Unit {0}
-IsOnWritable (Ok (says x)) = ⊥
-IsOnWritable (Ok (makes x)) = ⊥
-IsOnWritable (Ok (reads f offset size)) = ⊥
-IsOnWritable (Err e) = ⊥
+-- Law: so does each run.
+abbrev pub RunsAgree : Type 0
+RunsAgree = (g : Setting) (world : World) (old : Moment) (turns : List Turn) (new : Moment) (run : Run g world old turns new) (bytes : FileBytes) (number : ℕ)
+    → AreNumbered old.state.fuse.writables → StandFor old.state.fuse.writables bytes → AreClear g world old turns new run bytes
+    → Agrees old.told.held old.state.fuse.writables bytes number → Agrees new.told.held new.state.fuse.writables (bytes_through g world old turns new run bytes) number
+
+-- The defined answer to a request on a writable file, with its cause. Want of memory alone may stand in its place, or cut a WRITE
+-- short: that of the host, or that of the room which a WRITE and another size take first.
+pub data IsWriteDefined (bytes : FileBytes) (scarce : Bool) : Result Aim Errno → Answer → Option Cause → Type 0 where
+  loaded : (number : ℕ) (f : WritableFile) (offset size : ℕ) → IsWriteDefined bytes scarce (Ok (loads number f offset size)) (bytes_out (take size (drop offset (bytes number)))) None
+  wrote : (number : ℕ) (f : WritableFile) (offset : ℕ) (new : List ℕ) → IsWriteDefined bytes scarce (Ok (writes number f offset new)) (written (length new)) None
+  ended_early : (number : ℕ) (f : WritableFile) (offset : ℕ) (new : List ℕ) (count : ℕ) → 0 < count → count < length new → (offset + count) % 4096 ≡ 0 → scarce ≡ true
+      → IsWriteDefined bytes scarce (Ok (writes number f offset new)) (written count) (Some Memory)
+  cut : (number : ℕ) (f : WritableFile) (node size : ℕ) → IsWriteDefined bytes scarce (Ok (cuts number f node size)) (attributes (attr_of_size node size)) None
+  synced : (number : ℕ) (f : WritableFile) → IsWriteDefined bytes scarce (Ok (syncs number f)) empty None
+  no_memory : (aim : Result Aim Errno) → scarce ≡ true → IsWriteDefined bytes scarce aim (refused Enomem) None
+  no_room : (number : ℕ) (f : WritableFile) (offset : ℕ) (new : List ℕ) → IsWriteDefined bytes scarce (Ok (writes number f offset new)) (refused Enomem) None
+  no_cut_room : (number : ℕ) (f : WritableFile) (node size : ℕ) → IsWriteDefined bytes scarce (Ok (cuts number f node size)) (refused Enomem) None
+
+-- a request on a writable file of which the host holds the bytes
+abbrev pub IsHeldBy : Result Aim Errno → Option Held → FileBytes → Type 0
+IsHeldBy (Ok (loads number f offset size)) held bytes = IsAtHost held f.file (bytes number)
+IsHeldBy (Ok (writes number f offset new)) held bytes = IsAtHost held f.file (bytes number)
+IsHeldBy (Ok (cuts number f node size)) held bytes = IsAtHost held f.file (bytes number)
+IsHeldBy (Ok (syncs number f)) held bytes = IsAtHost held f.file (bytes number)
+IsHeldBy (Ok (says x)) held bytes = ⊥
+IsHeldBy (Ok (makes x)) held bytes = ⊥
+IsHeldBy (Ok (reads f offset size)) held bytes = ⊥
+IsHeldBy (Err e) held bytes = ⊥
 
 -- Law: over a host that holds a file's bytes, where no call failed or it is honest, a request on the file has its defined answer.
 abbrev pub WritesAreServed : Type 0
 WritesAreServed = (g : Setting) (world : World) (old : Moment) (turn : Turn) (new : Moment) (bytes : FileBytes) (m : Result Message Bad)
-    → Step g world old turn new → request_of turn.frame ≡ message_of m → IsOnWritable (aim_of old.state.fuse m)
-    → StandFor old.state.fuse.writables bytes → IsClear old.state turn bytes → Agree old.told.held old.state.fuse.writables bytes → IsCalm old turn
-    → (answer : Answer) × (turn.sent ≡ message_sent (number_of m) answer) × IsWriteDefined bytes (aim_of old.state.fuse m) answer turn.cause
+    → Step g world old turn new → request_of turn.frame ≡ message_of m → IsHeldBy (aim_of old.state.fuse m) old.told.held bytes
+    → StandFor old.state.fuse.writables bytes → IsClear old.state turn bytes → IsCalm old turn
+    → (answer : Answer) × (turn.sent ≡ message_sent (number_of m) answer) × IsWriteDefined bytes new.told.scarce (aim_of old.state.fuse m) answer turn.cause

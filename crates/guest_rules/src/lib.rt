@@ -4,4 +4,6 @@
 
 pub mod laws;
 
-pub use crate::laws::{reads_are_served, runs_stand_in_each_world};
+pub use crate::laws::{
+    reads_are_served, runs_stand_in_each_world, writes_are_held, writes_are_read, writes_are_served,
+};
