@@ -9,11 +9,12 @@ use Rattle.host_traits.specs.Told.{Told, Answered, Refused, Unheard, Kind, kind_
 use Rattle.host_traits.proofs.Doing.{is_failed}
 use Rattle.leaf_tree.specs.Worked.{one_ask, one_put}
 use Rattle.leaf_tree.proofs.Working.{worked_answered, worked_refused, worked_unheard}
-use Rattle.host_traits.specs.Did.{Trace, trace_of}
+use Rattle.host_traits.specs.Did.{Trace, trace_of, IsFailed}
 use Rattle.leaf_tree.specs.Worked.{Worked, HandsPage}
 use Rattle.verity_path.specs.declared.walk.WalkFault.TheVariants as walk
 use Rattle.rw_file.specs.Calls.{block_read}
 use Rattle.rw_file.specs.Steps.{IsThis, AskOutcome}
+use Rattle.rw_file.proofs.Ordered.{tried_last}
 use Rattle.rw_file.proofs.Holding.{held_by, held_refused, held_unheard, still_read, still_same, read_bytes}
 
 -- one exchange
@@ -45,12 +46,13 @@ module _ (file size i want : ℕ) (want_is : want ≡ min (size - 4096 * i) 4096
         },
         λ c size_is held. long_enough c size_is (read_bytes file (4096 * i) want [] raw x.held y.held (held_by (FileRead file (4096 * i) want) [] (Bytes raw) x y a) c held) (omega (arith, is, few)),
       ),
+      record { rest = []; order = refl; few = omega arith },
     )
 
     pub ask_ok : length raw ≤ want → want ≤ length raw → (u : Unit {0}) → Worked HandsPage 0 (IsThis (block_read file size i)) 1 x y (AskOutcome file size i x.held y.held raw (Ok u))
     ask_ok most least u = once (block_read file size i) (Bytes raw) x y [] answered refl (omega arith) 1 (omega arith) _ (record {
       failed = refl;
-      heard = record { before = []; is = refl };
+      own_is = refl;
       count = omega (arith, want_is, most, least);
       still = still_read file (4096 * i) want [] (Bytes raw) x.held y.held (held_by (FileRead file (4096 * i) want) [] (Bytes raw) x y a);
       bytes = λ c held. read_bytes file (4096 * i) want [] raw x.held y.held (held_by (FileRead file (4096 * i) want) [] (Bytes raw) x y a) c held ∙ ap (λ (n : ℕ). take n (drop (4096 * i) c)) want_is;
@@ -60,7 +62,9 @@ module _ (file size i want : ℕ) (want_is : want ≡ min (size - 4096 * i) 4096
   ask_failed raw faults r is =
       let refused : Refused (block_read file size i) [] x y = subst (λ (call : Call). Refused call [] x y) same r in
       worked_refused _ _ (IsThis (block_read file size i)) (block_read file size i) [] 1 x y _ refl refl (omega arith) (omega arith) refused
-      (still_same file x.held y.held (held_refused (block_read file size i) [] x y refused), is_failed (IsThis (block_read file size i)) (block_read file size i) [] x y [] faults refl refused is)
+      (still_same file x.held y.held (held_refused (block_read file size i) [] x y refused), blame refused, tried_last (block_read file size i) refl (trace_of [] 1 x y) faults (blame refused) refl) where
+        blame : Refused (block_read file size i) [] x y → IsFailed (IsThis (block_read file size i)) (trace_of [] 1 x y) faults
+        blame refused = is_failed (IsThis (block_read file size i)) (block_read file size i) [] x y [] faults refl refused is
 
   pub ask_memory : (raw : List ℕ) → Unheard x y → Worked HandsPage 0 (IsThis (block_read file size i)) 1 x y (AskOutcome file size i x.held y.held raw (Err walk.Memory))
-  ask_memory raw u = worked_unheard _ _ (IsThis (block_read file size i)) 1 x y _ u (still_same file x.held y.held (held_unheard x y u), record { failed = refl; scarce = u.scarce })
+  ask_memory raw u = worked_unheard _ _ (IsThis (block_read file size i)) 1 x y _ u (still_same file x.held y.held (held_unheard x y u), record { failed = refl; scarce = u.scarce }, record { rest = block_read file size i ∷ []; order = refl; few = omega arith })

@@ -29,7 +29,7 @@ module _ (is_local : Type 0) (file size count : ℕ) (same : count ≡ block_cou
       Worked HandsPage 0 (IsTreeCall is_local file (block_count size) (block_count size)) 0 x y (SyncOutcome is_local file size (IsTreeCall is_local file (block_count size) (block_count size)) (meaning size stands) (meaning size stands2) x.held y.held (Err (because w)))
   sync_bad w far d =
       worked_so _ _ _ _ _ _ x y _ _ (tree_kept is_local file size (block_count size) (block_count size) 0 0 (IsTreeCall is_local file (block_count size) (block_count size)) stands stands2 (λ ds. ds) x y w far (omega arith) (λ call c. c) (at_size (Err w) d))
-      (λ call c. c) (omega arith) (λ t q. says_because (IsKept is_local file (IsTreeCall is_local file (block_count size) (block_count size)) (meaning size stands) (meaning size stands2) x.held y.held t) _ _ w q)
+      (λ call c. c) (omega arith) (λ t q. says_because (IsKept is_local file (IsTreeCall is_local file (block_count size) (block_count size)) [] (meaning size stands) (meaning size stands2) x.held y.held t) _ _ w q)
 
   pub sync_ok : (u : Unit {0}) → Worked HandsPage 0 (IsTreeCall is_local file count count) 0 x y (TreeOutcome file (IsTreeCall is_local file count count) stands stands2 x.held y.held (λ ds. ds) (Ok u)) →
       Worked HandsPage 0 (IsTreeCall is_local file (block_count size) (block_count size)) 0 x y (SyncOutcome is_local file size (IsTreeCall is_local file (block_count size) (block_count size)) (meaning size stands) (meaning size stands2) x.held y.held (Ok u))
