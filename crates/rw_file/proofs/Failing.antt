@@ -91,7 +91,7 @@ stays F file own x y c on held t each (inr honest) one rose =
     omega (arith, none, one)
 
 -- the calls of the requests
-tree_on : (is_local : Type 0) (file a b : ℕ) (call : Call) → IsTreeCall is_local file a b call → OnFile file call
+pub tree_on : (is_local : Type 0) (file a b : ℕ) (call : Call) → IsTreeCall is_local file a b call → OnFile file call
 tree_on is_local file a b call t = inr (inl (t.level, t.index, t.call_is))
 
 pub read_on : (is_local : Type 0) (file size at len : ℕ) (call : Call) → IsForFileRead is_local file size at len call → OnFile file call
@@ -123,7 +123,7 @@ hold_all F file honest (m ∷ own) h k f is on s each =
     let rest = hold_all F file honest own s.0 k one.0 one.1 on s.2 each.1 in
     (rest.0, rest.1, rest.2 ∙ ap (λ (b : List ℕ). after_calls b own) one.2)
 
-held_after : (F : Call → Type 0) (file : ℕ) (x y : Told) (own : List Made) (c : List ℕ) → ((call : Call) → F call → OnFile file call) → Talked x y own → Each (λ call given. F call) own → IsAtHost x.held file c → IsAtHost y.held file (after_calls c own)
+pub held_after : (F : Call → Type 0) (file : ℕ) (x y : Told) (own : List Made) (c : List ℕ) → ((call : Call) → F call → OnFile file call) → Talked x y own → Each (λ call given. F call) own → IsAtHost x.held file c → IsAtHost y.held file (after_calls c own)
 held_after F file x y own c on t each held =
     let after : (k : Held) × (y.held ≡ Some k) × ServesAll x.honest held.all own k = subst (λ z. HeldAfter x.honest z own y.held) held.told t.held in
     let all = hold_all F file x.honest own held.all after.0 held.found held.file_is on after.2 each in

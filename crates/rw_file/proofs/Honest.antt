@@ -7,9 +7,9 @@ use Rattle.rw_file.specs.declared.faults.RwFault.{RwFault}
 use Rattle.rw_file.specs.declared.faults.RwFault.TheVariants as fault
 use Rattle.rw_file.specs.Contents.{Meaning, IsAtHost, IsFileHashed, IsVersion}
 use Rattle.rw_file.specs.Rows.{WrittenSays}
-use Rattle.rw_file.specs.Faithful.{ReadsAreServed, WritesAreDone, CutsAreDone}
-use Rattle.rw_file.specs.Calls.{IsForFileRead, IsForFileWrite, IsForCut}
-use Rattle.rw_file.proofs.Failing.{stays, read_on, write_on, cut_on}
+use Rattle.rw_file.specs.Faithful.{ReadsAreServed, WritesAreDone, CutsAreDone, SyncsAreDone}
+use Rattle.rw_file.specs.Calls.{IsForFileRead, IsForFileWrite, IsForCut, IsForSync}
+use Rattle.rw_file.proofs.Failing.{stays, tree_on, read_on, write_on, cut_on}
 use Rattle.rw_file.proofs.Hashed.{apart_fewer, file_hashed}
 
 no_versions : (c : List ℕ) (at : ℕ) (bytes : List ℕ) (n : ℕ) (own : Exchanges) → n ≤ length bytes → NoClash (IsFileHashed (IsVersion c at bytes (length bytes)) own) → NoClash (IsFileHashed (IsVersion c at bytes n) own)
@@ -50,3 +50,11 @@ write_done is_local file size before after at bytes x y (Ok w) d c is n h bk cal
       said is_local file size before after at bytes x y made count (Some (fault.Failed faults)) c is h bk calm own n o = absurd (calm o.stopped.blame.failed o.stopped.blame.rose)
       said is_local file size before after at bytes x y made count (Some fault.Memory) c is h bk calm own n o = inr refl
       said is_local file size before after at bytes x y made count (Some (fault.TooLarge end)) c is h bk calm own n o = absurd o.stopped
+
+pub sync_done : (is_local : Type 0) (file size : ℕ) (before after : Meaning) → SyncsAreDone is_local file size before after
+sync_done is_local file size before after x y (fault.Mismatch m) d c is n h bk calm = absurd (d.outcome.blame.1 c is n h bk)
+sync_done is_local file size before after x y (fault.Short asked got) d c is n h bk calm = absurd (d.outcome.blame.1 c is n h bk)
+sync_done is_local file size before after x y (fault.Failed faults) d c is n h bk calm =
+    absurd (stays (IsForSync is_local file size) file d.own x y c (tree_on is_local file _ _) h d.talked d.calls calm d.outcome.blame.failed d.outcome.blame.rose)
+sync_done is_local file size before after x y fault.Memory d c is n h bk calm = ⊎_elim (λ none. absurd none) (λ k. (refl, k.blame.1)) d.outcome
+sync_done is_local file size before after x y (fault.TooLarge end) d c is n h bk calm = absurd d.outcome
