@@ -44,7 +44,8 @@ take-on : (xs : List ℕ) (n m : ℕ) → n ≤ m → take n xs ++ take (m - n) 
 take-on xs n m le = let e : n + (m - n) ≡ m = omega (arith, le) in sym (take-add n (m - n) xs) ∙ ap (λ (k : ℕ). take k xs) e
 
 -- one block more
-pub version-on : (c : List ℕ) (at : ℕ) (bytes : List ℕ) (n m : ℕ) → n < m → m ≤ length bytes → over (version c at bytes n) (at + n) (slice_range bytes n m) ≡ version c at bytes m
+pub version-on : (c : List ℕ) (at : ℕ) (bytes : List ℕ) (n m : ℕ) → n < m → m ≤ length bytes →
+    over (version c at bytes n) (at + n) (slice_range bytes n m) ≡ version c at bytes m
 version-on c at bytes n zero lt le = absurd (omega (arith, lt))
 version-on c at bytes zero (suc m) lt le = let here : at + 0 ≡ at = omega arith in
     let all : suc m - 0 ≡ suc m = omega arith in
@@ -55,7 +56,8 @@ version-on c at bytes (suc n) (suc m) lt le =
     ∙ over-over c at (take (suc n) bytes) (take (suc m - suc n) (drop (suc n) bytes))
     ∙ ap (λ (xs : List ℕ). over c at xs) (take-on bytes (suc n) (suc m) (omega (arith, lt)))
 
-version-part : (c : List ℕ) (at : ℕ) (bytes : List ℕ) (n k want : ℕ) → n ≤ length bytes → (0 < n → at + n ≤ k) → k + want ≤ length c → take want (drop k (version c at bytes n)) ≡ take want (drop k c)
+version-part : (c : List ℕ) (at : ℕ) (bytes : List ℕ) (n k want : ℕ) → n ≤ length bytes → (0 < n → at + n ≤ k) → k + want ≤ length c →
+    take want (drop k (version c at bytes n)) ≡ take want (drop k c)
 version-part c at bytes zero k want le past within = refl
 version-part c at bytes (suc n) k want le past within =
     let long : length (take (suc n) bytes) ≡ suc n = omega (arith, length-take (suc n) bytes, le) in
@@ -72,7 +74,8 @@ zero_or : (n : ℕ) → (n ≡ 0) ⊎ (0 < n)
 zero_or zero = inl refl
 zero_or (suc n) = inr (omega arith)
 
-touched_next : (at n m : ℕ) → n < m → (n ≡ 0) ⊎ ((at + n) % 4096 ≡ 0) → m ≤ 4096 * ((at + n) / 4096 + 1) - at → touched at (at + m) ≡ touched at (at + n) + 1
+touched_next : (at n m : ℕ) → n < m → (n ≡ 0) ⊎ ((at + n) % 4096 ≡ 0) → m ≤ 4096 * ((at + n) / 4096 + 1) - at →
+    touched at (at + m) ≡ touched at (at + n) + 1
 touched_next at n m lt border le = ⊎_elim
     (λ z. touched_is at m (omega (arith, lt)) ∙ first z ∙ ap (λ (k : ℕ). touched at (at + k) + 1) (sym z))
     (λ some. touched_is at m (omega (arith, lt)) ∙ next some ∙ ap (λ (k : ℕ). k + 1) (sym (touched_is at n some)))
@@ -90,7 +93,8 @@ touched_next at n m lt border le = ⊎_elim
       next some = let h = aligned some in omega (arith, h, lt, le, some)
 
 -- a block of bytes: from the n-th to the m-th
-module _ (is_local : Type 0) (file size at len n m now : ℕ) (some : n < len) (border : (n ≡ 0) ⊎ ((at + n) % 4096 ≡ 0)) (m_is : m ≡ next_border at len n) (now_is : now ≡ size_with size at n) where
+module _ (is_local : Type 0) (file size at len n m now : ℕ) (some : n < len) (border : (n ≡ 0) ⊎ ((at + n) % 4096 ≡ 0))
+    (m_is : m ≡ next_border at len n) (now_is : now ≡ size_with size at n) where
   m_more : n < m
   m_more = omega (arith, m_is, some)
 
@@ -192,21 +196,25 @@ module _ (is_local : Type 0) (file size at len n m now : ℕ) (some : n < len) (
     here : (k : ℕ) → n ≤ k → (c v : List ℕ) → Only (version c at bytes n) v → IsVersion c at bytes k v
     here k le c v is = record { n = n; most = le; border = ⊎_elim (λ e. inl e) (λ h. inr (inr h)) border; is = is }
 
-    clear : (a b : Exchanges) (k : ℕ) → n ≤ k → (c : List ℕ) → NoClash (IsFileHashed (IsVersion c at bytes k) (a ++ b)) → NoClash (IsFileHashed (Only (version c at bytes n)) b)
+    clear : (a b : Exchanges) (k : ℕ) → n ≤ k → (c : List ℕ) → NoClash (IsFileHashed (IsVersion c at bytes k) (a ++ b)) →
+        NoClash (IsFileHashed (Only (version c at bytes n)) b)
     clear a b k le c apart = apart_fewer (IsFileHashed (Only (version c at bytes n)) b) (IsFileHashed (IsVersion c at bytes k) (a ++ b))
         (file_hashed (Only (version c at bytes n)) (IsVersion c at bytes k) b (a ++ b) (here k le c) (piece_right a b)) apart
 
-    early : (a b : Exchanges) (k : ℕ) → n ≤ k → IsPlacedTo file size at bytes n (meaning size first) (meaning now stands) x.held y.held (trace_of a 0 x y) →
+    early : (a b : Exchanges) (k : ℕ) → n ≤ k →
+        IsPlacedTo file size at bytes n (meaning size first) (meaning now stands) x.held y.held (trace_of a 0 x y) →
         Each (meaning size first) (λ c. IsVersion c at bytes k) (a ++ b) (λ c. IsNow (meaning size first) (meaning now stands) file x.held y.held c (version c at bytes n))
     early a b k le p = each_more (meaning size first) (λ c. IsVersion c at bytes n) (λ c. IsVersion c at bytes k) a (a ++ b) _
         (λ c v i. record { n = i.n; most = omega (arith, i.most, le); border = i.border; is = i.is }) (piece_left a b) p.content
 
-    more_writes : (a b : Exchanges) (k : ℕ) → k ≡ m - n → changes_in a ≡ block_writes file at (length bytes) n → changes_in b ≡ FileWrite file (at + n) k ∷ [] → changes_in (a ++ b) ≡ block_writes file at (length bytes) m
+    more_writes : (a b : Exchanges) (k : ℕ) → k ≡ m - n → changes_in a ≡ block_writes file at (length bytes) n →
+        changes_in b ≡ FileWrite file (at + n) k ∷ [] → changes_in (a ++ b) ≡ block_writes file at (length bytes) m
     more_writes a b k is first more =
         then_more a b (block_writes file at (length bytes) n) (FileWrite file (at + n) k ∷ []) first more
         ∙ subst (λ (l : ℕ). block_writes file at l n ++ FileWrite file (at + n) k ∷ [] ≡ block_writes file at l m) len_is (blocks_next k is)
 
-    writes_to : (a b : Exchanges) (k : ℕ) → k ≡ m - n → changes_in a ≡ block_writes file at (length bytes) n → (changes_in b ≡ []) ⊎ ((is_local → ⊥) × (changes_in b ≡ FileWrite file (at + n) k ∷ []))
+    writes_to : (a b : Exchanges) (k : ℕ) → k ≡ m - n → changes_in a ≡ block_writes file at (length bytes) n →
+        (changes_in b ≡ []) ⊎ ((is_local → ⊥) × (changes_in b ≡ FileWrite file (at + n) k ∷ []))
         → WritesTo is_local file at (length bytes) n (a ++ b)
     writes_to a b k is first (inl none) = inl (then_none a b (block_writes file at (length bytes) n) first none)
     writes_to a b k is first (inr far) =
@@ -216,14 +224,16 @@ module _ (is_local : Type 0) (file size at len n m now : ℕ) (some : n < len) (
     longer k le c v i = record { n = i.n; most = omega (arith, i.most, le); border = i.border; is = i.is }
 
     -- the reads of the block are right by the content before the write too
-    follows : (a b : Exchanges) (k : ℕ) → n ≤ k → IsPlacedTo file size at bytes n (meaning size first) (meaning now stands) x.held y.held (trace_of a 0 x y) →
+    follows : (a b : Exchanges) (k : ℕ) → n ≤ k →
+        IsPlacedTo file size at bytes n (meaning size first) (meaning now stands) x.held y.held (trace_of a 0 x y) →
         ((call : Call) (said : Said) → IsIn call said b → IsForFileWrite is_local file now (at + n) (m - n) call) → Follows (meaning size first) (meaning now stands) (λ c. IsVersion c at bytes k) (λ c. version c at bytes n) a b
     follows a b k le p calls = λ c is apart. (
       (early a b k le p c is apart).now,
       clear a b k le c apart,
       λ f from want said i right. right ∙ ap (λ (xs : List ℕ). Bytes xs) (same_part c is.size_is f from want (calls (FileRead f from want) said i)),
     ) where
-      same_part : (c : List ℕ) → size ≡ length c → (f from want : ℕ) → IsForFileWrite is_local file now (at + n) (m - n) (FileRead f from want) → take want (drop from (version c at bytes n)) ≡ take want (drop from c)
+      same_part : (c : List ℕ) → size ≡ length c → (f from want : ℕ) → IsForFileWrite is_local file now (at + n) (m - n) (FileRead f from want) →
+          take want (drop from (version c at bytes n)) ≡ take want (drop from c)
       same_part c long f from want (q, inl r) =
           let same : now ≡ size = now_same r.block r.from r.there in
           let place : from ≡ 4096 * r.block = ap place_in r.call_is in
@@ -239,7 +249,8 @@ module _ (is_local : Type 0) (file size at len n m now : ℕ) (some : n < len) (
       ])
 
     -- the calls for the block are those of the whole write for it
-    calls_same : (part : List ℕ) → length part ≡ m - n → block_calls file now (at + n) (at + n + length part) ((at + n) / 4096) ≡ block_calls file size at (at + length bytes) ((at + n) / 4096)
+    calls_same : (part : List ℕ) → length part ≡ m - n →
+        block_calls file now (at + n) (at + n + length part) ((at + n) / 4096) ≡ block_calls file size at (at + length bytes) ((at + n) / 4096)
     calls_same part long =
         ap (λ (k : ℕ). block_calls file now (at + n) (at + n + k) ((at + n) / 4096)) long ∙ block_same ∙ ap (λ (k : ℕ). block_calls file size at (at + k) ((at + n) / 4096)) len_is
 
@@ -250,18 +261,23 @@ module _ (is_local : Type 0) (file size at len n m now : ℕ) (some : n < len) (
         ∙ flat_map-append (block_calls file size at (at + length bytes)) (range_with_len (at / 4096) (touched at (at + n))) ((at + n) / 4096 ∷ [])
         ∙ ap (λ (l : List Call). write_calls file size at (length bytes) n ++ l) (append-nil (block_calls file size at (at + length bytes) ((at + n) / 4096))))
 
-    begun_is : {V : List ℕ → List ℕ → Type 0} {done done2 next next2 : List Call} {t : Trace} {w : WalkFault} → done ≡ done2 → next ≡ next2 → AreBegun (meaning size first) V done next t w → AreBegun (meaning size first) V done2 next2 t w
+    begun_is : {V : List ℕ → List ℕ → Type 0} {done done2 next next2 : List Call} {t : Trace} {w : WalkFault} → done ≡ done2 → next ≡ next2 →
+        AreBegun (meaning size first) V done next t w → AreBegun (meaning size first) V done2 next2 t w
     begun_is {V} {done} {done2} {next} {next2} {t} {w} d n b = subst (λ (l : List Call). AreBegun (meaning size first) V l next2 t w) d (subst (λ (l : List Call). AreBegun (meaning size first) V done l t w) n b)
 
     -- the calls of a block are known
-    known : {P : Trace → Type 0} {low : ℕ} {k : ℕ} → low ≤ k → Worked (Hands at bytes) 1 (IsForFileWrite is_local file now (at + n) (m - n)) low y z P →
+    known : {P : Trace → Type 0} {low : ℕ} {k : ℕ} → low ≤ k →
+        Worked (Hands at bytes) 1 (IsForFileWrite is_local file now (at + n) (m - n)) low y z P →
         Worked (Hands at bytes) 1 (IsForFileWrite is_local file size at len) k y z (λ t. P t × ((call : Call) (said : Said) → IsIn call said t.own → IsForFileWrite is_local file now (at + n) (m - n) call))
-    known {P} {low} {k} le e = worked_as _ _ _ _ low k y z _ _ e calls_for le (e.outcome, worked_calls (IsForFileWrite is_local file now (at + n) (m - n)) e.own e.calls)
+    known {P} {low} {k} le e =
+        worked_as _ _ _ _ low k y z _ _ e calls_for le (e.outcome, worked_calls (IsForFileWrite is_local file now (at + n) (m - n)) e.own e.calls)
 
     part_is : (part : List ℕ) → part ≡ slice_range bytes n m → (c : List ℕ) → over (version c at bytes n) (at + n) part ≡ version c at bytes m
-    part_is part is c = ap (λ (q : List ℕ). over (version c at bytes n) (at + n) q) is ∙ version-on c at bytes n m m_more (omega (arith, m_is, len_is))
+    part_is part is c =
+        ap (λ (q : List ℕ). over (version c at bytes n) (at + n) q) is ∙ version-on c at bytes n m m_more (omega (arith, m_is, len_is))
 
-    inner : (part : List ℕ) → part ≡ slice_range bytes n m → length part ≡ m - n → (most : ℕ) (P : Trace → Type 0) → Worked (Hands (at + n) part) 1 (IsForFileWrite is_local file now (at + n) (m - n)) most y z P →
+    inner : (part : List ℕ) → part ≡ slice_range bytes n m → length part ≡ m - n → (most : ℕ) (P : Trace → Type 0) →
+        Worked (Hands (at + n) part) 1 (IsForFileWrite is_local file now (at + n) (m - n)) most y z P →
         Worked (Hands at bytes) 1 (IsForFileWrite is_local file now (at + n) (m - n)) most y z P
     inner part is long most P e = worked_hands (Hands (at + n) part) (Hands at bytes) 1 (IsForFileWrite is_local file now (at + n) (m - n)) most y z P
         (λ call given c p. part_hands bytes part n m at is long (omega (arith, m_is, len_is)) (omega (arith, m_more)) call given p) e
@@ -331,13 +347,15 @@ module _ (is_local : Type 0) (file size at len n m now : ℕ) (some : n < len) (
         subst (λ (k : ℕ). Worked (Hands at bytes) (touched at (at + k)) (IsForFileWrite is_local file size at k) (most_write size at k) x z (ProgressOutcome is_local file size at bytes (meaning size first) (meaning now stands2) x.held z.held n (Some w))) len_is all
 
 -- of no bytes no call is made
-pub none_asked : (file size at : ℕ) (bytes : List ℕ) (before : Meaning) (x : Told) → AreAsked before (λ c. IsVersion c at bytes 0) (write_calls file size at (length bytes) 0) (trace_of [] 0 x x)
+pub none_asked : (file size at : ℕ) (bytes : List ℕ) (before : Meaning) (x : Told) →
+    AreAsked before (λ c. IsVersion c at bytes 0) (write_calls file size at (length bytes) 0) (trace_of [] 0 x x)
 none_asked file size at bytes before x = subst (λ (l : List Call). AreAsked before (λ c. IsVersion c at bytes 0) l (trace_of [] 0 x x))
     (sym (ap (λ (k : ℕ). flat_map (block_calls file size at (at + length bytes)) (range_with_len (at / 4096) k)) (touched_none at)))
     (asked_none before (λ c. IsVersion c at bytes 0) (trace_of [] 0 x x) refl)
 
 -- nothing is in place yet
-pub step_start : (is_local : Type 0) (file size at len : ℕ) (bytes : List ℕ) (stands : Standing) (x : Told) → Worked (Hands at bytes) (touched at (at + 0)) (IsForFileWrite is_local file size at len) (touched at (at + 0) * (top (block_count (max size (at + len))) + 1)) x x
+pub step_start : (is_local : Type 0) (file size at len : ℕ) (bytes : List ℕ) (stands : Standing) (x : Told) →
+    Worked (Hands at bytes) (touched at (at + 0)) (IsForFileWrite is_local file size at len) (touched at (at + 0) * (top (block_count (max size (at + len))) + 1)) x x
     (IsPlacedTo file size at bytes 0 (meaning size stands) (meaning size stands) x.held x.held)
 step_start is_local file size at len bytes stands x = worked_none _ _ _ _ x _ (record {
   failed = refl;
@@ -364,9 +382,11 @@ size_next size at n m now is lt = ⊎_elim
     (λ more. omega (arith, is, size_some size at n more, size_some size at m (omega (arith, lt)), lt)) (zero_or n)
 
 -- the size and the size's end by another name
-pub placed_as : (p : ℕ) (F : Call → Type 0) (most : ℕ) (x z : Told) (file size at : ℕ) (bytes : List ℕ) (m a b : ℕ) (first : Meaning) (stands : Standing) → a ≡ b →
+pub placed_as : (p : ℕ) (F : Call → Type 0) (most : ℕ) (x z : Told) (file size at : ℕ) (bytes : List ℕ) (m a b : ℕ) (first : Meaning) (stands : Standing) →
+    a ≡ b →
     Worked (Hands at bytes) p F most x z (IsPlacedTo file size at bytes m first (meaning a stands) x.held z.held) → Worked (Hands at bytes) p F most x z (IsPlacedTo file size at bytes m first (meaning b stands) x.held z.held)
-placed_as p F most x z file size at bytes m a b first stands e d = subst (λ (s : ℕ). Worked (Hands at bytes) p F most x z (IsPlacedTo file size at bytes m first (meaning s stands) x.held z.held)) e d
+placed_as p F most x z file size at bytes m a b first stands e d =
+    subst (λ (s : ℕ). Worked (Hands at bytes) p F most x z (IsPlacedTo file size at bytes m first (meaning s stands) x.held z.held)) e d
 
 pub all_placed : (is_local : Type 0) (file size at : ℕ) (bytes : List ℕ) (n : ℕ) (first after : Meaning) (x y : Told) → n ≡ length bytes →
     Worked (Hands at bytes) (touched at (at + n)) (IsForFileWrite is_local file size at (length bytes)) (touched at (at + n) * (top (block_count (max size (at + length bytes))) + 1)) x y (IsPlacedTo file size at bytes n first after x.held y.held) →

@@ -32,7 +32,8 @@ block_within c i lt = omega (arith, pages_at-zero (block_count (length c)), lt)
 block_input : (c : List ℕ) (i : ℕ) → i < block_count (length c) → IsInput c [] (hash_input [] (block c i))
 block_input c i lt = record { level = 0; i = i; level_in = omega arith; index = block_within c i lt; is = ap (hash_input []) (sym (block_page c i)) }
 
-one_page : (Hashed : List ℕ → Type 0) (p q : List ℕ) → NoClash Hashed → Hashed (hash_input [] p) → Hashed (hash_input [] q) → page_hash [] p ≡ page_hash [] q → p ≡ q
+one_page : (Hashed : List ℕ → Type 0) (p q : List ℕ) → NoClash Hashed → Hashed (hash_input [] p) → Hashed (hash_input [] q) →
+    page_hash [] p ≡ page_hash [] q → p ≡ q
 unfolding page_hash
 one_page Hashed p q apart has_p has_q same = append_cancel_left (padded_salt []) p q (apart (hash_input [] p) (hash_input [] q) has_p has_q same)
 
@@ -40,7 +41,8 @@ module _ (file size count i : ℕ) (same : count ≡ block_count size) (there : 
   there_in : (c : List ℕ) → size ≡ length c → i < block_count (length c)
   there_in c e = subst (λ (k : ℕ). i < block_count k) e (omega (arith, same, there))
 
-  module _ (before after : Meaning) (sized : (c : List ℕ) → before.is c → size ≡ length c) (x y : Option Held) (raw : List ℕ) (anchor : Place) (t : Trace) (b : IsBrought file size i before after x y raw anchor t) where
+  module _ (before after : Meaning) (sized : (c : List ℕ) → before.is c → size ≡ length c) (x y : Option Held) (raw : List ℕ) (anchor : Place)
+      (t : Trace) (b : IsBrought file size i before after x y raw anchor t) where
     -- what was heard has the block's digest, so it is the block
     pub is_known : page_hash anchor.salt (padded raw) ≡ anchor.digest → Each before Only t.own (λ c. padded raw ≡ block c i)
     is_known met = λ c is n.
@@ -59,7 +61,8 @@ module _ (file size count i : ℕ) (same : count ≡ block_count size) (there : 
     asked_known met = record {
       made = b.prepared.made;
       full = one_read IsFull b.count;
-      right = λ c is n. one_read (IsPartOf c) (ap (λ (bytes : List ℕ). Bytes bytes) (block_is c i size raw (sized c is) b.count (is_known met c is n)));
+      right =
+          λ c is n. one_read (IsPartOf c) (ap (λ (bytes : List ℕ). Bytes bytes) (block_is c i size raw (sized c is) b.count (is_known met c is n)));
     }
 
     pub asked_other : (m : Mismatch) → AreBegun before Only [] (block_read file size i ∷ []) t (walk.Mismatch m)
@@ -73,7 +76,8 @@ module _ (file size count i : ℕ) (same : count ≡ block_count size) (there : 
     }
 
     -- it has another
-    pub is_other : (m : Mismatch) → m.expected.0 ≢ m.found.0 → m.expected.0 ≡ anchor.digest → m.found.0 ≡ page_hash anchor.salt (padded raw) → m.level ≡ anchor.level → m.index ≡ anchor.index →
+    pub is_other : (m : Mismatch) → m.expected.0 ≢ m.found.0 → m.expected.0 ≡ anchor.digest → m.found.0 ≡ page_hash anchor.salt (padded raw) →
+        m.level ≡ anchor.level → m.index ≡ anchor.index →
         IsFileMismatch file before Only (λ c. c) t m × Lied x file before Only t.own
     is_other m differ expected found level index =
         let at_level : m.level ≡ 0 = level ∙ b.prepared.place.1 in

@@ -26,10 +26,12 @@ use Rattle.rw_file.proofs.Bytes.{lt_or_le}
 
 pub file_calls-append : (x y : Exchanges) → file_calls (x ++ y) ≡ file_calls x ++ file_calls y
 file_calls-append [] y = refl
-file_calls-append (e ∷ x) y = ap (λ (l : List Call). file_call e.0 ++ l) (file_calls-append x y) ∙ sym (append_assoc (file_call e.0) (file_calls x) (file_calls y))
+file_calls-append (e ∷ x) y =
+    ap (λ (l : List Call). file_call e.0 ++ l) (file_calls-append x y) ∙ sym (append_assoc (file_call e.0) (file_calls x) (file_calls y))
 
 -- those of a first part, of which no call failed, and those of a later one
-pub made_on : (x y z : Told) (a b : Exchanges) (failed : ℕ) (p q : List Call) → file_made (trace_of a 0 x y) ≡ p → file_made (trace_of b failed y z) ≡ q → file_made (trace_of (a ++ b) failed x z) ≡ p ++ q
+pub made_on : (x y z : Told) (a b : Exchanges) (failed : ℕ) (p q : List Call) → file_made (trace_of a 0 x y) ≡ p →
+    file_made (trace_of b failed y z) ≡ q → file_made (trace_of (a ++ b) failed x z) ≡ p ++ q
 made_on x y z a b failed p q first later =
     ap (λ (l : List Call). l ++ failed_call failed z.last_failed) (file_calls-append a b)
     ∙ append_assoc (file_calls a) (file_calls b) (failed_call failed z.last_failed)
@@ -63,7 +65,8 @@ abbrev pub want_in : Call → ℕ
 want_in (FileRead file at want) = want
 want_in call = 0
 
-pub same_read : (P : ℕ → ℕ → Said → Type 0) (f g at at2 want want2 : ℕ) (said said2 : Said) → ◌≡◌ {A = Call × Said} (FileRead f at want, said) (FileRead g at2 want2, said2) → P at2 want2 said2 → P at want said
+pub same_read : (P : ℕ → ℕ → Said → Type 0) (f g at at2 want want2 : ℕ) (said said2 : Said) →
+    ◌≡◌ {A = Call × Said} (FileRead f at want, said) (FileRead g at2 want2, said2) → P at2 want2 said2 → P at want said
 same_read P f g at at2 want want2 said said2 e here =
     let a : at ≡ at2 = ap (λ (z : Call × Said). place_in z.0) e in
     let w : want ≡ want2 = ap (λ (z : Call × Said). want_in z.0) e in
@@ -98,7 +101,9 @@ in_left call said (e ∷ x) y (inl p) = inl p
 in_left call said (e ∷ x) y (inr i) = inr (in_left call said x y i)
 
 -- what is so of the answers by one content is so by another
-pub but_so : (few : ℕ) (P Q : ℕ → ℕ → Said → Type 0) (own : Exchanges) → ((file at want : ℕ) (said : Said) → IsIn (FileRead file at want) said own → P at want said → Q at want said) → ButLast few P own → ButLast few Q own
+pub but_so : (few : ℕ) (P Q : ℕ → ℕ → Said → Type 0) (own : Exchanges) →
+    ((file at want : ℕ) (said : Said) → IsIn (FileRead file at want) said own → P at want said → Q at want said) → ButLast few P own →
+    ButLast few Q own
 but_so few P Q own so l = record {
   before = l.before;
   last = l.last;
@@ -130,28 +135,35 @@ module _ (F : Call → Type 0) (none : (call : Call) → F call → file_call ca
   some_none call f zero = refl
   some_none call f (suc k) = none call f
 
-  by_came : (before : Option Call) (call : Call) (came : Option Said) → F call → ((k : ℕ) → failed_call k before ≡ []) → (k : ℕ) → failed_call k (failed_by before call came) ≡ []
+  by_came : (before : Option Call) (call : Call) (came : Option Said) → F call → ((k : ℕ) → failed_call k before ≡ []) → (k : ℕ) →
+      failed_call k (failed_by before call came) ≡ []
   by_came before call None f was k = some_none call f k
   by_came before call (Some said) f was k = was k
 
-  last_none : (before : Option Call) (own : List Made) → Each (λ call given. F call) own → ((k : ℕ) → failed_call k before ≡ []) → (k : ℕ) → failed_call k (last_after before own) ≡ []
+  last_none : (before : Option Call) (own : List Made) → Each (λ call given. F call) own → ((k : ℕ) → failed_call k before ≡ []) → (k : ℕ) →
+      failed_call k (last_after before own) ≡ []
   last_none before [] each was = was
   last_none before (m ∷ own) each was = last_none (failed_by before m.call m.came) own each.1 (by_came before m.call m.came each.0 was)
 
-  failed_none : (before : Option Call) (own : List Made) → Each (λ call given. F call) own → failed_call (failures_of own) (last_after before own) ≡ []
+  failed_none : (before : Option Call) (own : List Made) → Each (λ call given. F call) own →
+      failed_call (failures_of own) (last_after before own) ≡ []
   failed_none before [] each = refl
   failed_none before (m ∷ own) each = one m.came (failed_none before own each.1) where
-    one : (came : Option Said) → failed_call (failures_of own) (last_after before own) ≡ [] → failed_call (one_failure came + failures_of own) (last_after (failed_by before m.call came) own) ≡ []
+    one : (came : Option Said) → failed_call (failures_of own) (last_after before own) ≡ [] →
+        failed_call (one_failure came + failures_of own) (last_after (failed_by before m.call came) own) ≡ []
     one None later = last_none (Some m.call) own each.1 (some_none m.call each.0) (one_failure None + failures_of own)
-    one (Some said) later = let e : 0 + failures_of own ≡ failures_of own = omega arith in ap (λ (k : ℕ). failed_call k (last_after before own)) e ∙ later
+    one (Some said) later =
+        let e : 0 + failures_of own ≡ failures_of own = omega arith in ap (λ (k : ℕ). failed_call k (last_after before own)) e ∙ later
 
   -- work of such calls alone makes none on the file's bytes
-  quiet : (H : Call → List ℕ → Type 0) (p m : ℕ) (x y : Told) (P : Trace → Type 0) (d : Worked H p F m x y P) → file_made (trace_of (heard_of d.own) (failures_of d.own) x y) ≡ []
+  quiet : (H : Call → List ℕ → Type 0) (p m : ℕ) (x y : Told) (P : Trace → Type 0) (d : Worked H p F m x y P) →
+      file_made (trace_of (heard_of d.own) (failures_of d.own) x y) ≡ []
   quiet H p m x y P d =
       ap (λ (l : List Call). l ++ failed_call (failures_of d.own) y.last_failed) (heard_none d.own d.calls)
       ∙ ap (failed_call (failures_of d.own)) d.talked.last_failed ∙ failed_none x.last_failed d.own d.calls
 
-pub tree_quiet : (is_local : Type 0) (file a b : ℕ) (H : Call → List ℕ → Type 0) (p m : ℕ) (x y : Told) (P : Trace → Type 0) (d : Worked H p (IsTreeCall is_local file a b) m x y P) → file_made (trace_of (heard_of d.own) (failures_of d.own) x y) ≡ []
+pub tree_quiet : (is_local : Type 0) (file a b : ℕ) (H : Call → List ℕ → Type 0) (p m : ℕ) (x y : Told) (P : Trace → Type 0) (d : Worked H p (IsTreeCall is_local file a b) m x y P) →
+    file_made (trace_of (heard_of d.own) (failures_of d.own) x y) ≡ []
 tree_quiet is_local file a b = quiet (IsTreeCall is_local file a b) (tree_none is_local file a b)
 
 -- ---- one piece of work after another
@@ -162,7 +174,8 @@ asked_none before V t e =
     record { made = e; full = no_reads IsFull t.own none; right = λ c is n. no_reads (IsPartOf c) t.own none }
 
 -- all was asked, so the first was
-pub begun_all : (before : Meaning) (V : List ℕ → List ℕ → Type 0) (calls more : List Call) (t : Trace) (w : WalkFault) → AreAsked before V calls t → AreBegun before V [] (calls ++ more) t w
+pub begun_all : (before : Meaning) (V : List ℕ → List ℕ → Type 0) (calls more : List Call) (t : Trace) (w : WalkFault) → AreAsked before V calls t →
+    AreBegun before V [] (calls ++ more) t w
 begun_all before V calls more t w a = record {
   begun = calls;
   rest = more;
@@ -172,14 +185,17 @@ begun_all before V calls more t w a = record {
   right = λ c is n. but_none (judged w) (IsPartOf c) t.own (a.right c is n);
 }
 
-pub begun_end : (before : Meaning) (V : List ℕ → List ℕ → Type 0) (calls : List Call) (t : Trace) (w : WalkFault) → AreAsked before V calls t → AreBegun before V [] calls t w
+pub begun_end : (before : Meaning) (V : List ℕ → List ℕ → Type 0) (calls : List Call) (t : Trace) (w : WalkFault) → AreAsked before V calls t →
+    AreBegun before V [] calls t w
 begun_end before V calls t w a = subst (λ (l : List Call). AreBegun before V [] l t w) (append-nil calls) (begun_all before V calls [] t w a)
 
-pub begun_none : (before : Meaning) (V : List ℕ → List ℕ → Type 0) (next : List Call) (t : Trace) (w : WalkFault) → file_made t ≡ [] → AreBegun before V [] next t w
+pub begun_none : (before : Meaning) (V : List ℕ → List ℕ → Type 0) (next : List Call) (t : Trace) (w : WalkFault) → file_made t ≡ [] →
+    AreBegun before V [] next t w
 begun_none before V next t w e = begun_all before V [] next t w (asked_none before V t e)
 
 -- of more calls the first
-pub begun_in : (before : Meaning) (V : List ℕ → List ℕ → Type 0) (done next more all : List Call) (t : Trace) (w : WalkFault) → (done ++ next) ++ more ≡ all → AreBegun before V done next t w → AreBegun before V [] all t w
+pub begun_in : (before : Meaning) (V : List ℕ → List ℕ → Type 0) (done next more all : List Call) (t : Trace) (w : WalkFault) →
+    (done ++ next) ++ more ≡ all → AreBegun before V done next t w → AreBegun before V [] all t w
 begun_in before V done next more all t w is b = record {
   begun = done ++ b.begun;
   rest = b.rest ++ more;
@@ -197,7 +213,8 @@ Follows first before V made a b = EachContent first V (a ++ b) (λ c. before.is 
     × ((file at want : ℕ) (said : Said) → IsIn (FileRead file at want) said b → IsPartOf (made c) at want said → IsPartOf c at want said))
 
 -- the call that failed was the one that was made
-pub tried_last : (this : Call) → file_call this ≡ this ∷ [] → (t : Trace) (faults : ℕ) → IsFailed (IsThis this) t faults → t.own ≡ [] → IsTried this t (walk.Failed faults)
+pub tried_last : (this : Call) → file_call this ≡ this ∷ [] → (t : Trace) (faults : ℕ) → IsFailed (IsThis this) t faults → t.own ≡ [] →
+    IsTried this t (walk.Failed faults)
 tried_last this is t faults f none = record {
   rest = [];
   order = sym (
@@ -216,7 +233,8 @@ tried_none this t w unfailed none = record {
 }
 
 -- of one call, which was not answered, the first was made
-pub begun_first : (before : Meaning) (this : Call) (t : Trace) (w : WalkFault) → IsTried this t w → t.own ≡ [] → AreBegun before Only [] (this ∷ []) t w
+pub begun_first : (before : Meaning) (this : Call) (t : Trace) (w : WalkFault) → IsTried this t w → t.own ≡ [] →
+    AreBegun before Only [] (this ∷ []) t w
 begun_first before this t w one none = record {
   begun = file_made t;
   rest = one.rest;
@@ -227,7 +245,8 @@ begun_first before this t w one none = record {
 }
 
 -- one call was made and answered
-pub made_one : (call : Call) (said : Said) (t : Trace) → file_call call ≡ call ∷ [] → t.failed ≡ 0 → t.own ≡ (call, said) ∷ [] → file_made t ≡ call ∷ []
+pub made_one : (call : Call) (said : Said) (t : Trace) → file_call call ≡ call ∷ [] → t.failed ≡ 0 → t.own ≡ (call, said) ∷ [] →
+    file_made t ≡ call ∷ []
 made_one call said t is unfailed one =
     ap (λ (l : Exchanges). file_calls l ++ failed_call t.failed t.last_failed) one ∙ ap (λ (k : ℕ). (file_call call ++ []) ++ failed_call k t.last_failed) unfailed
     ∙ ap (λ (l : List Call). (l ++ []) ++ []) is
@@ -238,11 +257,13 @@ shorts_low (walk.Short asked got) = omega arith
 shorts_low (walk.Failed faults) = omega arith
 shorts_low walk.Memory = omega arith
 
-module _ (first : Meaning) (V W : List ℕ → List ℕ → Type 0) (wide : (c v : List ℕ) → W c v → V c v) (p : List Call) (x y z : Told) (a b : Exchanges) (failed : ℕ) (early : AreAsked first W p (trace_of a 0 x y)) where
+module _ (first : Meaning) (V W : List ℕ → List ℕ → Type 0) (wide : (c v : List ℕ) → W c v → V c v) (p : List Call) (x y z : Told) (a b : Exchanges)
+    (failed : ℕ) (early : AreAsked first W p (trace_of a 0 x y)) where
   right_early : EachContent first V (a ++ b) (λ c. AllReads (IsPartOf c) a)
   right_early = each_more first W V a (a ++ b) (λ c. AllReads (IsPartOf c) a) wide (piece_left a b) early.right
 
-  pub asked_on : (before : Meaning) (made : List ℕ → List ℕ) (q : List Call) → Follows first before V made a b → AreAsked before Only q (trace_of b failed y z) → AreAsked first V (p ++ q) (trace_of (a ++ b) failed x z)
+  pub asked_on : (before : Meaning) (made : List ℕ → List ℕ) (q : List Call) → Follows first before V made a b →
+      AreAsked before Only q (trace_of b failed y z) → AreAsked first V (p ++ q) (trace_of (a ++ b) failed x z)
   asked_on before made q link late = record {
     made = made_on x y z a b failed p q early.made late.made;
     full = reads_both IsFull a b early.full late.full;
@@ -250,7 +271,8 @@ module _ (first : Meaning) (V W : List ℕ → List ℕ → Type 0) (wide : (c v
         reads_both (IsPartOf c) a b (right_early c is n) (λ file at want said i. k.2 file at want said i (late.right (made c) k.0 k.1 file at want said i));
   }
 
-  pub begun_on : (before : Meaning) (made : List ℕ → List ℕ) (done next : List Call) (w : WalkFault) → Follows first before V made a b → AreBegun before Only done next (trace_of b failed y z) w
+  pub begun_on : (before : Meaning) (made : List ℕ → List ℕ) (done next : List Call) (w : WalkFault) → Follows first before V made a b →
+      AreBegun before Only done next (trace_of b failed y z) w
       → AreBegun first V (p ++ done) next (trace_of (a ++ b) failed x z) w
   begun_on before made done next w link late = record {
     begun = late.begun;
@@ -263,7 +285,8 @@ module _ (first : Meaning) (V W : List ℕ → List ℕ → Type 0) (wide : (c v
   }
 
   -- and then some that read nothing
-  asked_quiet : (q : List Call) → file_made (trace_of b failed y z) ≡ q → AllReads (λ at want said. ⊥) b → AreAsked first V (p ++ q) (trace_of (a ++ b) failed x z)
+  asked_quiet : (q : List Call) → file_made (trace_of b failed y z) ≡ q → AllReads (λ at want said. ⊥) b →
+      AreAsked first V (p ++ q) (trace_of (a ++ b) failed x z)
   asked_quiet q later none = record {
     made = made_on x y z a b failed p q early.made later;
     full = reads_both IsFull a b early.full (λ file at want said i. absurd (none file at want said i));
@@ -274,12 +297,14 @@ module _ (first : Meaning) (V W : List ℕ → List ℕ → Type 0) (wide : (c v
   asked_still none = subst (λ (l : List Call). AreAsked first V l (trace_of (a ++ b) failed x z)) (append-nil p)
       (asked_quiet [] none (no_reads (λ at want said. ⊥) b (nil_left (file_calls b) (failed_call failed z.last_failed) none)))
 
-  pub asked_more : (call : Call) (said : Said) → ((file at want : ℕ) → call ≡ FileRead file at want → ⊥) → file_call call ≡ call ∷ [] → failed ≡ 0 → b ≡ (call, said) ∷ [] → AreAsked first V (p ++ call ∷ []) (trace_of (a ++ b) failed x z)
+  pub asked_more : (call : Call) (said : Said) → ((file at want : ℕ) → call ≡ FileRead file at want → ⊥) → file_call call ≡ call ∷ [] → failed ≡ 0 →
+      b ≡ (call, said) ∷ [] → AreAsked first V (p ++ call ∷ []) (trace_of (a ++ b) failed x z)
   asked_more call said other own unfailed one = asked_quiet (call ∷ []) (made_one call said (trace_of b failed y z) own unfailed one)
       (subst (AllReads (λ at want said. ⊥)) (sym one) (λ f at want s i. ⊎_elim (λ e. other f at want (sym (ap (λ (z : Call × Said). z.0) e))) (λ none. none) i))
 
   -- and then one that was not answered, or short
-  pub begun_tried : (this : Call) (w : WalkFault) → IsTried this (trace_of b failed y z) w → AreBegun first V [] (p ++ this ∷ []) (trace_of (a ++ b) failed x z) w
+  pub begun_tried : (this : Call) (w : WalkFault) → IsTried this (trace_of b failed y z) w →
+      AreBegun first V [] (p ++ this ∷ []) (trace_of (a ++ b) failed x z) w
   begun_tried this w t = record {
     begun = p ++ file_made (trace_of b failed y z);
     rest = t.rest;
@@ -297,7 +322,8 @@ bare_low file size at end i there low =
     let b : nat_lt (4096 * i) at ≡ true = lt-ltb (4096 * i) at low in
     rw (a, b) refl
 
-pub bare_yes : (file size at end i : ℕ) → 4096 * i < size → (4096 * i < at) ⊎ (end < min size (4096 * (i + 1))) → bare_read file size at end i ≡ block_read file size i ∷ []
+pub bare_yes : (file size at end i : ℕ) → 4096 * i < size → (4096 * i < at) ⊎ (end < min size (4096 * (i + 1))) →
+    bare_read file size at end i ≡ block_read file size i ∷ []
 bare_yes file size at end i there (inl low) = bare_low file size at end i there low
 bare_yes file size at end i there (inr few) = ⊎_elim (bare_low file size at end i there)
     (λ high.

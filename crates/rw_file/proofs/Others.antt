@@ -29,7 +29,8 @@ same_with file h g = record {
 }
 
 -- where a call finds the file, what is held afterwards is as said
-by_found : (file : ℕ) (h k : Held) (said : Said) (o : Option File) (f : File → Said × Held) → ((g : File) → IsSameBut file h (f g).1) → found o (λ g. Some (f g)) ≡ Some (said, k) → IsSameBut file h k
+by_found : (file : ℕ) (h k : Held) (said : Said) (o : Option File) (f : File → Said × Held) → ((g : File) → IsSameBut file h (f g).1) →
+    found o (λ g. Some (f g)) ≡ Some (said, k) → IsSameBut file h k
 by_found file h k said None f so e = absurd (cc)
 by_found file h k said (Some g) f so e = let is : f g ≡ (said, k) = cc in subst (IsSameBut file h) (ap (λ (z : Said × Held). z.1) is) (so g)
 
@@ -62,11 +63,13 @@ module _ (file : ℕ) (h k : Held) (given : List ℕ) (said : Said) where
   one_call call (inr (inr (inl w))) e = one_write w.0 w.1 (subst (λ (c : Call). serve h c given ≡ Some (said, k)) w.2 e)
   one_call call (inr (inr (inr s))) e = one_size s.0 (subst (λ (c : Call). serve h c given ≡ Some (said, k)) s.1 e)
 
-one_made : (file : ℕ) (honest : Bool) (h k : Held) (call : Call) (given : List ℕ) (came : Option Said) → OnFile file call → Serves honest h call given came k → IsSameBut file h k
+one_made : (file : ℕ) (honest : Bool) (h k : Held) (call : Call) (given : List ℕ) (came : Option Said) → OnFile file call →
+    Serves honest h call given came k → IsSameBut file h k
 one_made file honest h k call given None on s = subst (IsSameBut file h) (sym s.0) (same_held file h)
 one_made file honest h k call given (Some said) on s = one_call file h k given said call on s
 
-all_made : (F : Call → Type 0) (file : ℕ) (honest : Bool) (own : List Made) (h k : Held) → ((call : Call) → F call → OnFile file call) → ServesAll honest h own k → Each (λ call given. F call) own → IsSameBut file h k
+all_made : (F : Call → Type 0) (file : ℕ) (honest : Bool) (own : List Made) (h k : Held) → ((call : Call) → F call → OnFile file call) →
+    ServesAll honest h own k → Each (λ call given. F call) own → IsSameBut file h k
 all_made F file honest [] h k on s each = subst (IsSameBut file h) (sym s) (same_held file h)
 all_made F file honest (m ∷ own) h k on s each =
     same_on file h s.0 k (one_made file honest h s.0 m.call m.given m.came (on m.call each.0) s.1) (all_made F file honest own s.0 k on s.2 each.1)
@@ -78,27 +81,32 @@ others F file on x y own h t each is =
 
 -- ---- the bytes of the file, in requests that leave them
 
-left_all : (F : Call → Type 0) → ((c : List ℕ) (call : Call) (given : List ℕ) (came : Option Said) → F call → after_one c call given came ≡ c) → (c : List ℕ) (own : List Made) → Each (λ call given. F call) own → after_calls c own ≡ c
+left_all : (F : Call → Type 0) → ((c : List ℕ) (call : Call) (given : List ℕ) (came : Option Said) → F call → after_one c call given came ≡ c) →
+    (c : List ℕ) (own : List Made) → Each (λ call given. F call) own → after_calls c own ≡ c
 left_all F left c [] each = refl
 left_all F left c (m ∷ own) each = ap (λ (b : List ℕ). after_calls b own) (left c m.call m.given m.came each.0) ∙ left_all F left c own each.1
 
-stay : (F : Call → Type 0) (file : ℕ) → ((call : Call) → F call → OnFile file call) → ((c : List ℕ) (call : Call) (given : List ℕ) (came : Option Said) → F call → after_one c call given came ≡ c) → BytesStay file F
+stay : (F : Call → Type 0) (file : ℕ) → ((call : Call) → F call → OnFile file call) →
+    ((c : List ℕ) (call : Call) (given : List ℕ) (came : Option Said) → F call → after_one c call given came ≡ c) → BytesStay file F
 stay F file on left x y own c t each held = subst (IsAtHost y.held file) (left_all F left c own each) (held_after F file x y own c on t each held)
 
-sync_left : (is_local : Type 0) (file size : ℕ) (c : List ℕ) (call : Call) (given : List ℕ) (came : Option Said) → IsForSync is_local file size call → after_one c call given came ≡ c
+sync_left : (is_local : Type 0) (file size : ℕ) (c : List ℕ) (call : Call) (given : List ℕ) (came : Option Said) →
+    IsForSync is_local file size call → after_one c call given came ≡ c
 sync_left is_local file size c call given None t = refl
 sync_left is_local file size c call given (Some said) t = elim t.call_is [
   | inl e ↦ ap (λ (k : Call). after_one c k given (Some said)) e
   | inr e ↦ ap (λ (k : Call). after_one c k given (Some said)) e
 ]
 
-read_left : (is_local : Type 0) (file size at len : ℕ) (c : List ℕ) (call : Call) (given : List ℕ) (came : Option Said) → IsForFileRead is_local file size at len call → after_one c call given came ≡ c
+read_left : (is_local : Type 0) (file size at len : ℕ) (c : List ℕ) (call : Call) (given : List ℕ) (came : Option Said) →
+    IsForFileRead is_local file size at len call → after_one c call given came ≡ c
 read_left is_local file size at len c call given None f = refl
 read_left is_local file size at len c call given (Some said) (some, inl r) = ap (λ (k : Call). after_one c k given (Some said)) r.call_is
 read_left is_local file size at len c call given (Some said) (some, inr t) = sync_left is_local file size c call given (Some said) t
 
 pub reads_stay : (is_local : Type 0) (file size at len : ℕ) → BytesStay file (IsForFileRead is_local file size at len)
-reads_stay is_local file size at len = stay (IsForFileRead is_local file size at len) file (read_on is_local file size at len) (read_left is_local file size at len)
+reads_stay is_local file size at len =
+    stay (IsForFileRead is_local file size at len) file (read_on is_local file size at len) (read_left is_local file size at len)
 
 pub syncs_stay : (is_local : Type 0) (file size : ℕ) → BytesStay file (IsForSync is_local file size)
 syncs_stay is_local file size = stay (IsForSync is_local file size) file (tree_on is_local file _ _) (sync_left is_local file size)

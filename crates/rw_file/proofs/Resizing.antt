@@ -46,16 +46,20 @@ use Rattle.rw_file.proofs.Cuts.{cut_block, last_none, last_some}
 
 -- the call that sets the size
 module _ (file to : ℕ) (x y : Told) where
-  pub sized_ok : (u : Unit {0}) → Answered (Resize file to) [] Done x y → Worked HandsPage 1 (IsThis (Resize file to)) 0 x y (ResizeOutcome file to x.held y.held (Ok u))
+  pub sized_ok : (u : Unit {0}) → Answered (Resize file to) [] Done x y →
+      Worked HandsPage 1 (IsThis (Resize file to)) 0 x y (ResizeOutcome file to x.held y.held (Ok u))
   sized_ok u a = worked_answered _ _ _ (Resize file to) [] Done 0 x y _ refl refl (omega arith) (omega arith) a (refl, refl, cut_there file to [] Done x.held y.held (held_by _ [] Done x y a), cut_leaves_tree file to [] Done x.held y.held (held_by _ [] Done x y a))
 
-  pub sized_failed : (faults : ℕ) → Refused (Resize file to) [] x y → faults ≡ y.faults → Worked HandsPage 1 (IsThis (Resize file to)) 0 x y (ResizeOutcome file to x.held y.held (Err (walk.Failed faults)))
+  pub sized_failed : (faults : ℕ) → Refused (Resize file to) [] x y → faults ≡ y.faults →
+      Worked HandsPage 1 (IsThis (Resize file to)) 0 x y (ResizeOutcome file to x.held y.held (Err (walk.Failed faults)))
   sized_failed faults r is = worked_refused _ _ _ (Resize file to) [] 0 x y _ refl refl (omega arith) (omega arith) r (still_same file x.held y.held (held_refused _ [] x y r), is_failed _ (Resize file to) [] x y [] faults refl r is, refl)
 
   pub sized_memory : Unheard x y → Worked HandsPage 1 (IsThis (Resize file to)) 0 x y (ResizeOutcome file to x.held y.held (Err walk.Memory))
-  sized_memory u = worked_unheard _ _ _ 0 x y _ u (still_same file x.held y.held (held_unheard x y u), record { failed = refl; scarce = u.scarce }, refl)
+  sized_memory u =
+      worked_unheard _ _ _ 0 x y _ u (still_same file x.held y.held (held_unheard x y u), record { failed = refl; scarce = u.scarce }, refl)
 
-module _ (is_local : Type 0) (file size count to : ℕ) (last : Option Digest) (same : count ≡ block_count size) (other : to ≢ size) (stands : Standing) (x y : Told) (lasts : Lasts file (meaning size stands)) where
+module _ (is_local : Type 0) (file size count to : ℕ) (last : Option Digest) (same : count ≡ block_count size) (other : to ≢ size) (stands : Standing)
+    (x y : Told) (lasts : Lasts file (meaning size stands)) where
   abbrev For : Call → Type 0
   For = IsForCut is_local file size to
 
@@ -65,7 +69,8 @@ module _ (is_local : Type 0) (file size count to : ℕ) (last : Option Digest) (
   size_for : (call : Call) → IsThis (Resize file to) call → For call
   size_for call is = (other, inr (inl is))
 
-  sized_blame : (w : WalkFault) (t : Trace) → ResizeOutcome file to x.held y.held (Err w) t → AllStill file x.held y.held × IsFileBlame is_local x.held file For (meaning size stands) Only (λ c. c) t w
+  sized_blame : (w : WalkFault) (t : Trace) → ResizeOutcome file to x.held y.held (Err w) t →
+      AllStill file x.held y.held × IsFileBlame is_local x.held file For (meaning size stands) Only (λ c. c) t w
   sized_blame (walk.Mismatch m) t q = absurd q
   sized_blame (walk.Short asked got) t q = absurd q
   sized_blame (walk.Failed faults) t q = (q.0, failed_so _ _ t faults size_for q.1)
@@ -84,7 +89,8 @@ module _ (is_local : Type 0) (file size count to : ℕ) (last : Option Digest) (
   sized_tried (walk.Failed faults) t q = tried_last (Resize file to) refl t faults q.1 q.2
   sized_tried walk.Memory t q = tried_none (Resize file to) t walk.Memory q.1.failed q.2
 
-  pub not_sized : (w : WalkFault) → Worked HandsPage 1 (IsThis (Resize file to)) 0 x y (ResizeOutcome file to x.held y.held (Err w)) → Worked HandsPage 1 For most x y (CutTreeOutcome is_local file size to last stands stands x.held y.held (Err w))
+  pub not_sized : (w : WalkFault) → Worked HandsPage 1 (IsThis (Resize file to)) 0 x y (ResizeOutcome file to x.held y.held (Err w)) →
+      Worked HandsPage 1 For most x y (CutTreeOutcome is_local file size to last stands stands x.held y.held (Err w))
   not_sized w d = worked_so _ _ _ _ _ _ x y _ _ d size_for (omega arith) (λ t q. let b = sized_blame w t q in record {
     calls = inl (ap (λ (l : Exchanges). changes_in l) (sized_none w t q));
     asked = begun_first (meaning size stands) (Resize file to) t w (sized_tried w t q) (sized_none w t q);
@@ -92,7 +98,8 @@ module _ (is_local : Type 0) (file size count to : ℕ) (last : Option Digest) (
     blame = b.1;
   })
 
-  module _ (stands2 : Standing) (z : Told) (u : Unit {0}) (d : Worked HandsPage 1 (IsThis (Resize file to)) 0 x y (ResizeOutcome file to x.held y.held (Ok u))) where
+  module _ (stands2 : Standing) (z : Told) (u : Unit {0})
+      (d : Worked HandsPage 1 (IsThis (Resize file to)) 0 x y (ResizeOutcome file to x.held y.held (Ok u))) where
     abbrev Tree : Call → Type 0
     Tree = IsTreeCall is_local file count (block_count to)
 
@@ -103,15 +110,18 @@ module _ (is_local : Type 0) (file size count to : ℕ) (last : Option Digest) (
     low = top-mono (max count (block_count to)) (block_count (max size to)) (omega (arith, same))
 
     clear : (a b : Exchanges) (c : List ℕ) → NoClash (IsFileHashed (Only c) (a ++ b)) → NoClash (IsTreeHashed (digests_of c) b)
-    clear a b c n = apart_fewer (IsTreeHashed (digests_of c) b) (IsFileHashed (Only c) (a ++ b)) (tree_hashed (Only c) c b (a ++ b) refl (piece_right a b)) n
+    clear a b c n =
+        apart_fewer (IsTreeHashed (digests_of c) b) (IsFileHashed (Only c) (a ++ b)) (tree_hashed (Only c) c b (a ++ b) refl (piece_right a b)) n
 
     -- the size was set, and no other call on the file's bytes was made
-    sized_then : (a b : Exchanges) (failed : ℕ) → a ≡ (Resize file to, Done) ∷ [] → file_made (trace_of b failed y z) ≡ [] → AreAsked (meaning size stands) Only (Resize file to ∷ []) (trace_of (a ++ b) failed x z)
+    sized_then : (a b : Exchanges) (failed : ℕ) → a ≡ (Resize file to, Done) ∷ [] → file_made (trace_of b failed y z) ≡ [] →
+        AreAsked (meaning size stands) Only (Resize file to ∷ []) (trace_of (a ++ b) failed x z)
     sized_then a b failed one none = asked_still (meaning size stands) Only Only (λ c v i. i) (Resize file to ∷ []) x y z a b failed
         (subst (λ (l : Exchanges). AreAsked (meaning size stands) Only (Resize file to ∷ []) (trace_of l 0 x y)) (sym one)
         (asked_more (meaning size stands) Only Only (λ c v i. i) [] x x y [] ((Resize file to, Done) ∷ []) 0 (asked_none (meaning size stands) Only (trace_of [] 0 x x) refl) (Resize file to) Done (λ f k n e. (cc)) refl refl refl)) none
 
-    pub not_cut : (w : WalkFault) → (is_local → ⊥) → Worked HandsPage 0 Tree (top (max count (block_count to))) y z (TreeOutcome file Tree stands stands2 y.held z.held (leaves_resized (block_count to) last) (Err w)) →
+    pub not_cut : (w : WalkFault) → (is_local → ⊥) →
+        Worked HandsPage 0 Tree (top (max count (block_count to))) y z (TreeOutcome file Tree stands stands2 y.held z.held (leaves_resized (block_count to) last) (Err w)) →
         Worked HandsPage 1 For most x z (CutTreeOutcome is_local file size to last stands stands2 x.held z.held (Err w))
     not_cut w far e =
         let still = still_trees is_local file count (block_count to) (top (max count (block_count to))) y z _ e in
@@ -141,7 +151,8 @@ module _ (is_local : Type 0) (file size count to : ℕ) (last : Option Digest) (
           blame = tree_blame_on is_local file size count (block_count to) For stands stands x y z a b failed w far le tree_for q.0.1 (λ c is n. (is, λ h. lasts x.held y.held c p.3 h)) q.0.2;
         })) (λ call q. q) (omega (arith, low)) (λ t q. q)
 
-    pub was_cut : (v : Unit {0}) → Worked HandsPage 0 Tree (top (max count (block_count to))) y z (TreeOutcome file Tree stands stands2 y.held z.held (leaves_resized (block_count to) last) (Ok v)) →
+    pub was_cut : (v : Unit {0}) →
+        Worked HandsPage 0 Tree (top (max count (block_count to))) y z (TreeOutcome file Tree stands stands2 y.held z.held (leaves_resized (block_count to) last) (Ok v)) →
         Worked HandsPage 1 For most x z (CutTreeOutcome is_local file size to last stands stands2 x.held z.held (Ok v))
     was_cut v e =
         let still = still_trees is_local file count (block_count to) (top (max count (block_count to))) y z _ e in
@@ -159,12 +170,14 @@ module _ (is_local : Type 0) (file size count to : ℕ) (last : Option Digest) (
         })) (λ call q. q) (omega arith) (λ t q. q)
 
 -- the digest of the block in which the file ends
-module _ (is_local : Type 0) (file size count to : ℕ) (same : count ≡ block_count size) (shorter : to < size) (stands stands2 : Standing) (x y : Told) (anchor : Place) (raw page : List ℕ)
+module _ (is_local : Type 0) (file size count to : ℕ) (same : count ≡ block_count size) (shorter : to < size) (stands stands2 : Standing) (x y : Told)
+    (anchor : Place) (raw page : List ℕ)
     (d : Worked HandsPage 0 (IsForBlock is_local file size (to / 4096)) (top (block_count size) + 1) x y (BringOutcome is_local file size (to / 4096) (meaning size stands) (meaning size stands2) x.held y.held raw (Ok anchor))) where
   there : to / 4096 < count
   there = omega (arith, same, shorter)
 
-  pub digest_other : (m : Mismatch) → m.expected.0 ≢ m.found.0 → m.expected.0 ≡ anchor.digest → m.found.0 ≡ page_hash anchor.salt (padded raw) → m.level ≡ anchor.level → m.index ≡ anchor.index →
+  pub digest_other : (m : Mismatch) → m.expected.0 ≢ m.found.0 → m.expected.0 ≡ anchor.digest → m.found.0 ≡ page_hash anchor.salt (padded raw) →
+      m.level ≡ anchor.level → m.index ≡ anchor.index →
       Worked HandsPage 0 (IsForBlock is_local file size (to / 4096)) (top (block_count size) + 1) x y (DigestOutcome is_local file size to (meaning size stands) (meaning size stands2) x.held y.held (Err (walk.Mismatch m)))
   digest_other m differ expected found level index = worked_so _ _ _ _ _ _ x y _ _ d (λ call q. q) (omega arith) (λ t b. record {
     kept = λ c is n. (b.prepared.kept c is n).0;
@@ -172,7 +185,8 @@ module _ (is_local : Type 0) (file size count to : ℕ) (same : count ≡ block_
     blame = is_other file size count (to / 4096) same there (meaning size stands) (meaning size stands2) (λ c is. is.size_is) x.held y.held raw anchor t b m differ expected found level index;
   })
 
-  pub digest_known : (new : List ℕ) (digest : Digest) → page ≡ padded raw → page_hash anchor.salt (padded raw) ≡ anchor.digest → new ≡ take (to % 4096) page ++ replicate (4096 - to % 4096) 0 → digest.0 ≡ page_hash [] new →
+  pub digest_known : (new : List ℕ) (digest : Digest) → page ≡ padded raw → page_hash anchor.salt (padded raw) ≡ anchor.digest →
+      new ≡ take (to % 4096) page ++ replicate (4096 - to % 4096) 0 → digest.0 ≡ page_hash [] new →
       Worked HandsPage 0 (IsForBlock is_local file size (to / 4096)) (top (block_count size) + 1) x y (DigestOutcome is_local file size to (meaning size stands) (meaning size stands2) x.held y.held (Ok digest))
   digest_known new digest is_page met made hash = worked_so _ _ _ _ _ _ x y _ _ d (λ call q. q) (omega arith) (λ t b. record {
     failed = b.prepared.failed;
@@ -257,7 +271,8 @@ module _ (is_local : Type 0) (file size to : ℕ) (other : to ≢ size) (stands 
       two_calls : ((block_read file size (to / 4096) ∷ []) ++ Resize file to ∷ []) ++ [] ≡ cut_calls file size to
       two_calls = append-nil (block_read file size (to / 4096) ∷ Resize file to ∷ []) ∙ sym (cut_inner file size to shorter inner)
 
-      follows : (a b : Exchanges) → IsDigested file size to (meaning size stands) (meaning size stands1) x.held y.held digest (trace_of a 0 x y) → Follows (meaning size stands) (meaning size stands1) Only (λ c. c) a b
+      follows : (a b : Exchanges) → IsDigested file size to (meaning size stands) (meaning size stands1) x.held y.held digest (trace_of a 0 x y) →
+          Follows (meaning size stands) (meaning size stands1) Only (λ c. c) a b
       follows a b p = λ c is n. ((each_more (meaning size stands) Only Only a (a ++ b) _ (λ c v e. e) (piece_left a b) p.content c is n).0.now, clear2 a b c n, λ f at want said i right. right)
 
       calls_on : (a b : Exchanges) → changes_in a ≡ [] → CutsNone is_local file to b → CutsNone is_local file to (a ++ b)
@@ -267,7 +282,8 @@ module _ (is_local : Type 0) (file size to : ℕ) (other : to ≢ size) (stands 
       first : Worked HandsPage 0 (IsForCut is_local file size to) (top (block_count (max size to)) + 1) x y (DigestOutcome is_local file size to (meaning size stands) (meaning size stands1) x.held y.held (Ok digest))
       first = worked_so _ _ _ _ _ _ x y _ _ d block_for low_digest (λ t q. q)
 
-      pub with_bad : (w : WalkFault) (last : Option Digest) → Worked HandsPage 1 (IsForCut is_local file size to) (top (block_count (max size to))) y z (CutTreeOutcome is_local file size to last stands1 stands2 y.held z.held (Err w)) →
+      pub with_bad : (w : WalkFault) (last : Option Digest) →
+          Worked HandsPage 1 (IsForCut is_local file size to) (top (block_count (max size to))) y z (CutTreeOutcome is_local file size to last stands1 stands2 y.held z.held (Err w)) →
           Worked HandsPage 1 (IsForCut is_local file size to) (most_cut size to) x z (ChangeOutcome is_local file size to stands stands2 x.held z.held (Err w))
       with_bad w last e = worked_so _ _ _ _ _ _ x z _ _ (worked_then _ _ _ _ _ _ x y z _ _ _ (worked_changes _ _ _ x y _ first) e (λ t p. p.0.failed) (λ a b failed le p q. record {
         calls = calls_on a b p.1 q.calls;
@@ -281,7 +297,8 @@ module _ (is_local : Type 0) (file size to : ℕ) (other : to ≢ size) (stands 
             (λ c is n. ((each_more (meaning size stands) Only Only a (a ++ b) _ (λ c v e. e) (piece_left a b) p.0.content c is n).0.now, clear2 a b c n, (let k = (each_more (meaning size stands) Only Only a (a ++ b) _ (λ c v e. e) (piece_left a b) p.0.content c is n).0 in λ h bk. (k.agree h, k.backed bk)))) q.blame;
       })) (λ call q. q) (omega arith) (λ t q. q)
 
-      pub with_digest : (u : Unit {0}) → Worked HandsPage 1 (IsForCut is_local file size to) (top (block_count (max size to))) y z (CutTreeOutcome is_local file size to (Some digest) stands1 stands2 y.held z.held (Ok u)) →
+      pub with_digest : (u : Unit {0}) →
+          Worked HandsPage 1 (IsForCut is_local file size to) (top (block_count (max size to))) y z (CutTreeOutcome is_local file size to (Some digest) stands1 stands2 y.held z.held (Ok u)) →
           Worked HandsPage 1 (IsForCut is_local file size to) (most_cut size to) x z (ChangeOutcome is_local file size to stands stands2 x.held z.held (Ok u))
       with_digest u e = worked_so _ _ _ _ _ _ x z _ _ (worked_then _ _ _ _ _ _ x y z _ _ _ (worked_changes _ _ _ x y _ first) e (λ t p. p.0.failed) (λ a b failed le p q. record {
         failed = q.failed;
@@ -311,17 +328,21 @@ same_size is_local file size to stands x u same = worked_none _ _ _ _ x _ (recor
 
 pub cut_past : (is_local : Type 0) (file size to : ℕ) (before : Meaning) (x : Told) → 4294967296 < to → to ≡ min to (2 ^ 64 - 1) →
     Worked HandsPage 1 (IsForCut is_local file size to) (most_cut size to) x x (CutOutcome is_local file size to before before x.held x.held (Err (fault.TooLarge to)))
-cut_past is_local file size to before x large is = worked_none _ _ _ _ x _ (refl, record { large = large; end_is = is; none = refl; failed = refl; kept = λ c b. (b, λ held bk. bk) })
+cut_past is_local file size to before x large is =
+    worked_none _ _ _ _ x _ (refl, record { large = large; end_is = is; none = refl; failed = refl; kept = λ c b. (b, λ held bk. bk) })
 
 pub cut_no_room : (is_local : Type 0) (file size to : ℕ) (before after : Meaning) (x : Told) → IsSame before after →
     Worked HandsPage 1 (IsForCut is_local file size to) (most_cut size to) x x (CutOutcome is_local file size to before after x.held x.held (Err fault.Memory))
 cut_no_room is_local file size to before after x keeps = worked_none _ _ _ _ x _ (inl (record { none = refl; failed = refl; kept = keeps }))
 
-module _ (is_local : Type 0) (file size to : ℕ) (first stands stands2 : Standing) (x y : Told) (keeps : (ds : List Digest) → first.stands ds → stands.stands ds) (backs : (ds : List Digest) → first.stands ds → (held : Option Held) → first.backed held ds → stands.backed held ds) where
+module _ (is_local : Type 0) (file size to : ℕ) (first stands stands2 : Standing) (x y : Told)
+    (keeps : (ds : List Digest) → first.stands ds → stands.stands ds)
+    (backs : (ds : List Digest) → first.stands ds → (held : Option Held) → first.backed held ds → stands.backed held ds) where
   from : IsSame (meaning size first) (meaning size stands)
   from c is = (record { size_is = is.size_is; tree = keeps (digests_of c) is.tree }, λ held bk. backs (digests_of c) is.tree held bk)
 
-  pub cut_bad : (w : WalkFault) → Worked HandsPage 1 (IsForCut is_local file size to) (most_cut size to) x y (ChangeOutcome is_local file size to stands stands2 x.held y.held (Err w)) →
+  pub cut_bad : (w : WalkFault) →
+      Worked HandsPage 1 (IsForCut is_local file size to) (most_cut size to) x y (ChangeOutcome is_local file size to stands stands2 x.held y.held (Err w)) →
       Worked HandsPage 1 (IsForCut is_local file size to) (most_cut size to) x y (CutOutcome is_local file size to (meaning size first) (meaning size stands2) x.held y.held (Err (because w)))
   cut_bad w d = worked_so _ _ _ _ _ _ x y _ _ d (λ call q. q) (omega arith) (λ t q.
       says_because (IsUncut is_local file size to (cut_calls file size to) (meaning size first) (meaning size stands2) x.held y.held t) _ _ w (record {
@@ -331,7 +352,8 @@ module _ (is_local : Type 0) (file size to : ℕ) (first stands stands2 : Standi
         blame = blame_from is_local file (IsForCut is_local file size to) (meaning size stands) (meaning size first) Only (λ c. c) t w from x.held q.blame;
       }))
 
-  pub cut_good : (u : Unit {0}) → Worked HandsPage 1 (IsForCut is_local file size to) (most_cut size to) x y (ChangeOutcome is_local file size to stands stands2 x.held y.held (Ok u)) →
+  pub cut_good : (u : Unit {0}) →
+      Worked HandsPage 1 (IsForCut is_local file size to) (most_cut size to) x y (ChangeOutcome is_local file size to stands stands2 x.held y.held (Ok u)) →
       Worked HandsPage 1 (IsForCut is_local file size to) (most_cut size to) x y (CutOutcome is_local file size to (meaning size first) (meaning to stands2) x.held y.held (Ok u))
   cut_good u d = worked_so _ _ _ _ _ _ x y _ _ d (λ call q. q) (omega arith) (λ t q. record {
     failed = q.failed;

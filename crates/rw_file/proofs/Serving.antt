@@ -35,9 +35,11 @@ use Rattle.rw_file.proofs.Hashed.{each_more, apart_fewer, file_hashed}
 use Rattle.rw_file.proofs.Known.{is_known, is_other, asked_known, asked_other, all_of}
 use Rattle.rw_file.proofs.Ordered.{asked_none, asked_on, begun_on, begun_in, Follows}
 
-module _ (is_local : Type 0) (file size count i : ℕ) (same : count ≡ block_count size) (there : i < count) (stands stands2 : Standing) (x y : Told) (anchor : Place) (raw : List ℕ) (n : ℕ) (n_is : n ≡ length raw)
+module _ (is_local : Type 0) (file size count i : ℕ) (same : count ≡ block_count size) (there : i < count) (stands stands2 : Standing) (x y : Told)
+    (anchor : Place) (raw : List ℕ) (n : ℕ) (n_is : n ≡ length raw)
     (d : Worked HandsPage 0 (IsForBlock is_local file size i) (top (block_count size) + 1) x y (BringOutcome is_local file size i (meaning size stands) (meaning size stands2) x.held y.held raw (Ok anchor))) where
-  pub serve_ok : (from to : ℕ) (u : Unit {0}) (old new : List ℕ) (p : Met) → p.page ≡ padded (slice_range raw 0 (0 + n)) → p.anchor ≡ anchor → IsMet p → new ≡ old ++ slice_range p.page from to → from ≤ to → to ≤ 4096 →
+  pub serve_ok : (from to : ℕ) (u : Unit {0}) (old new : List ℕ) (p : Met) → p.page ≡ padded (slice_range raw 0 (0 + n)) → p.anchor ≡ anchor →
+      IsMet p → new ≡ old ++ slice_range p.page from to → from ≤ to → to ≤ 4096 →
       Worked HandsPage 0 (IsForBlock is_local file size i) (top (block_count size) + 1) x y (ServeOutcome is_local file size i from to (meaning size stands) (meaning size stands2) x.held y.held old new (Ok u))
   serve_ok from to u old new p page_is anchor_is met new_is order within =
       let whole : p.page ≡ padded raw = page_is ∙ all_of raw n n_is in
@@ -52,17 +54,20 @@ module _ (is_local : Type 0) (file size count i : ℕ) (same : count ≡ block_c
         );
       })
 
-  pub serve_bad : (from to : ℕ) (old new : List ℕ) (m : Mismatch) → m.expected.0 ≢ m.found.0 → m.expected.0 ≡ anchor.digest → m.found.0 ≡ page_hash anchor.salt (padded (slice_range raw 0 (0 + n))) → m.level ≡ anchor.level → m.index ≡ anchor.index →
+  pub serve_bad : (from to : ℕ) (old new : List ℕ) (m : Mismatch) → m.expected.0 ≢ m.found.0 → m.expected.0 ≡ anchor.digest →
+      m.found.0 ≡ page_hash anchor.salt (padded (slice_range raw 0 (0 + n))) → m.level ≡ anchor.level → m.index ≡ anchor.index →
       Worked HandsPage 0 (IsForBlock is_local file size i) (top (block_count size) + 1) x y (ServeOutcome is_local file size i from to (meaning size stands) (meaning size stands2) x.held y.held old new (Err (walk.Mismatch m)))
   serve_bad from to old new m differ expected found level index =
       worked_so _ _ _ _ _ _ x y _ _ d (λ call q. q) (omega arith) (λ t b. record {
         kept = λ c is clash. (b.prepared.kept c is clash).0;
-        asked = asked_other file size count i same there (meaning size stands) (meaning size stands2) (λ c is. is.size_is) x.held y.held raw anchor t b m;
+        asked =
+            asked_other file size count i same there (meaning size stands) (meaning size stands2) (λ c is. is.size_is) x.held y.held raw anchor t b m;
         blame = is_other file size count i same there (meaning size stands) (meaning size stands2) (λ c is. is.size_is) x.held y.held raw anchor t b m differ expected (found ∙ ap (page_hash anchor.salt) (all_of raw n n_is)) level index;
       })
 
 -- one after another
-pub now_on : (before after more : Meaning) (file : ℕ) (x y z : Option Held) (c d e : List ℕ) → IsNow before after file x y c d → IsNow after more file y z d e → IsNow before more file x z c e
+pub now_on : (before after more : Meaning) (file : ℕ) (x y z : Option Held) (c d e : List ℕ) → IsNow before after file x y c d →
+    IsNow after more file y z d e → IsNow before more file x z c e
 now_on before after more file x y z c d e a b = record { now = b.now; agree = λ h. b.agree (a.agree h); backed = λ h. b.backed (a.backed h) }
 
 -- the slice of a block after the slice before it
@@ -101,12 +106,15 @@ nothing_left : (c : List ℕ) (offset len : ℕ) → min (offset + len) (length 
 nothing_left c offset len le = nil_from_length (take len (drop offset c)) (omega (arith, length-take len (drop offset c), length-drop offset c, le))
 
 -- the same calls, for the request
-read_for : (is_local : Type 0) (file size offset len i : ℕ) → offset < end_of size offset len → offset / 4096 ≤ i → 4096 * i < end_of size offset len → (call : Call) → IsForBlock is_local file size i call → IsForFileRead is_local file size offset len call
-read_for is_local file size offset len i some from to call (inl is) = (some, inl (record { block = i; from = from; to = to; there = omega (arith, to); call_is = is }))
+read_for : (is_local : Type 0) (file size offset len i : ℕ) → offset < end_of size offset len → offset / 4096 ≤ i →
+    4096 * i < end_of size offset len → (call : Call) → IsForBlock is_local file size i call → IsForFileRead is_local file size offset len call
+read_for is_local file size offset len i some from to call (inl is) =
+    (some, inl (record { block = i; from = from; to = to; there = omega (arith, to); call_is = is }))
 read_for is_local file size offset len i some from to call (inr tree) = (some, inr tree)
 
 -- where no content stands between, the cause of a later part is that of the whole
-pub blame_on : (is_local : Type 0) (file : ℕ) (F G : Call → Type 0) (before first : Meaning) (V : List ℕ → List ℕ → Type 0) (made : List ℕ → List ℕ) (a b c : Told) (x y : Exchanges) (failed : ℕ) (w : WalkFault) → a.faults ≤ b.faults → ((call : Call) → F call → G call) →
+pub blame_on : (is_local : Type 0) (file : ℕ) (F G : Call → Type 0) (before first : Meaning) (V : List ℕ → List ℕ → Type 0) (made : List ℕ → List ℕ) (a b c : Told) (x y : Exchanges) (failed : ℕ) (w : WalkFault) →
+    a.faults ≤ b.faults → ((call : Call) → F call → G call) →
     Each first V (x ++ y) (λ content. before.is (made content) × NoClash (IsFileHashed (Only (made content)) y) × (IsAtHost a.held file content → first.backed a.held content → IsAtHost b.held file (made content) × before.backed b.held (made content))) →
     IsFileBlame is_local b.held file F before Only (λ c. c) (trace_of y failed b c) w → IsFileBlame is_local a.held file G first V made (trace_of (x ++ y) failed a c) w
 blame_on is_local file F G before first V made a b c x y failed (walk.Mismatch m) le wider mid q = (
@@ -123,7 +131,8 @@ blame_on is_local file F G before first V made a b c x y failed (walk.Mismatch m
   λ content is n h bk. let there = mid content is n in let so = there.2 h bk in q.1 (made content) there.0 there.1 so.0 so.1,
 )
 blame_on is_local file F G before first V made a b c x y failed (walk.Short asked got) le wider mid q = (last_short_later a b c x y failed asked got q.0, λ content is n h bk. let there = mid content is n in let so = there.2 h bk in q.1 (made content) there.0 there.1 so.0 so.1)
-blame_on is_local file F G before first V made a b c x y failed (walk.Failed faults) le wider mid q = failed_later G a b c x y failed faults le (failed_so F G _ faults wider q)
+blame_on is_local file F G before first V made a b c x y failed (walk.Failed faults) le wider mid q =
+    failed_later G a b c x y failed faults le (failed_so F G _ faults wider q)
 blame_on is_local file F G before first V made a b c x y failed walk.Memory le wider mid q = q
 
 pub says_because : (P : WalkFault → Type 0) (Q : ℕ → Type 0) (R : Type 0) (w : WalkFault) → P w → FaultSays P Q R (because w)
@@ -160,7 +169,8 @@ module _ (is_local : Type 0) (file size offset len end : ℕ) (end_is : end ≡ 
       let next : index + 1 - offset / 4096 ≡ suc (index - offset / 4096) = omega arith in
       rw next (sym (suc-mul (index - offset / 4096) (top (block_count size) + 1)))
 
-  pub read_start : (x : Told) (bytes : List ℕ) → bytes ≡ [] → Worked HandsPage 0 (IsForFileRead is_local file size offset len) (answers (offset / 4096)) x x
+  pub read_start : (x : Told) (bytes : List ℕ) → bytes ≡ [] →
+      Worked HandsPage 0 (IsForFileRead is_local file size offset len) (answers (offset / 4096)) x x
       (IsServedTo file size offset (mid_of (offset / 4096)) (offset / 4096 - offset / 4096) (meaning size first) (meaning size first) x.held x.held bytes)
   read_start x bytes none =
       let here : min end (max offset (4096 * (offset / 4096))) - offset ≡ 0 = omega arith in
@@ -175,7 +185,9 @@ module _ (is_local : Type 0) (file size offset len end : ℕ) (end_is : end ≡ 
   module _ (stands stands2 : Standing) (x y z : Told) (index : ℕ) (bytes : List ℕ) (from : offset / 4096 ≤ index) (to : 4096 * index < end)
       (d : Worked HandsPage 0 (IsForFileRead is_local file size offset len) (answers index) x y (IsServedTo file size offset (mid_of index) (index - offset / 4096) (meaning size first) (meaning size stands) x.held y.held bytes)) where
     -- the content stays, and so do the answers that are right
-    follows : (a b : Exchanges) → IsServedTo file size offset (mid_of index) (index - offset / 4096) (meaning size first) (meaning size stands) x.held y.held bytes (trace_of a 0 x y) → Follows (meaning size first) (meaning size stands) Only (λ c. c) a b
+    follows : (a b : Exchanges) →
+        IsServedTo file size offset (mid_of index) (index - offset / 4096) (meaning size first) (meaning size stands) x.held y.held bytes (trace_of a 0 x y) →
+        Follows (meaning size first) (meaning size stands) Only (λ c. c) a b
     follows a b p = λ c is n. (
       (each_more (meaning size first) Only Only a (a ++ b) _ (λ c v e. e) (piece_left a b) p.content c is n).0.now,
       apart_fewer (IsFileHashed (Only c) b) (IsFileHashed (Only c) (a ++ b)) (file_hashed (Only c) (Only c) b (a ++ b) (λ v e. e) (piece_right a b)) n,
@@ -229,7 +241,8 @@ module _ (is_local : Type 0) (file size offset len end : ℕ) (end_is : end ≡ 
         ∙ ap (λ (k : ℕ). block_reads file size offset k) (before ∙ sym (touched_some offset end some))
         ∙ ap (λ (e : ℕ). read_calls file size offset e) end_is
 
-    pub read_bad : (left new : List ℕ) (from_at to_at : ℕ) (w : WalkFault) → Worked HandsPage 0 (IsForBlock is_local file size index) (top (block_count size) + 1) y z
+    pub read_bad : (left new : List ℕ) (from_at to_at : ℕ) (w : WalkFault) →
+        Worked HandsPage 0 (IsForBlock is_local file size index) (top (block_count size) + 1) y z
         (ServeOutcome is_local file size index from_at to_at (meaning size stands) (meaning size stands2) y.held z.held bytes new (Err w)) →
         Worked HandsPage 0 (IsForFileRead is_local file size offset len) (most_read size offset len) x z (ReadOutcome is_local file size offset len (meaning size first) (meaning size stands2) x.held z.held left (Err (because w)))
     read_bad left new from_at to_at w e =
@@ -273,12 +286,14 @@ module _ (is_local : Type 0) (file size offset len end : ℕ) (end_is : end ≡ 
 untouched : (offset end : ℕ) → end ≤ offset → touched offset end ≡ 0
 untouched offset end le = grind (arith, le)
 
-pub read_none : (is_local : Type 0) (file size offset len : ℕ) (stands : Standing) (x : Told) (bytes : List ℕ) (u : Unit {0}) → end_of size offset len ≤ offset → bytes ≡ [] →
+pub read_none : (is_local : Type 0) (file size offset len : ℕ) (stands : Standing) (x : Told) (bytes : List ℕ) (u : Unit {0}) →
+    end_of size offset len ≤ offset → bytes ≡ [] →
     Worked HandsPage 0 (IsForFileRead is_local file size offset len) (most_read size offset len) x x (ReadOutcome is_local file size offset len (meaning size stands) (meaning size stands) x.held x.held bytes (Ok u))
 read_none is_local file size offset len stands x bytes u le none =
     worked_none _ _ _ _ x _ (record {
       failed = refl;
       asked = subst (λ (k : ℕ). AreAsked (meaning size stands) Only (block_reads file size offset k) (trace_of [] 0 x x)) (sym (untouched offset (end_of size offset len) le)) (asked_none (meaning size stands) Only (trace_of [] 0 x x) refl);
       count = omega (arith, ap length none, le);
-      content = λ c is n. (record { now = is; agree = λ h. h; backed = λ h. h }, none ∙ sym (nothing_left c offset len (omega (arith, le, is.size_is))));
+      content =
+          λ c is n. (record { now = is; agree = λ h. h; backed = λ h. h }, none ∙ sym (nothing_left c offset len (omega (arith, le, is.size_is))));
     })

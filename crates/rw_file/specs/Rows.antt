@@ -47,7 +47,8 @@ pub record IsNow (before after : Meaning) (file : ℕ) (x y : Option Held) (cont
 -- the fault comes from a page of the tree: the last of these calls heard it, or it is a call on the tree that failed
 abbrev pub IsTreeFault : ℕ → (Call → Type 0) → Exchanges → Trace → WalkFault → Type 0
 IsTreeFault file IsTree rest t (walk.Mismatch x) = (bytes : List ℕ) × IsLast (TreeRead file x.level x.index) (Bytes bytes) rest
-IsTreeFault file IsTree rest t (walk.Short asked got) = (call : Call) × (bytes : List ℕ) × IsLast call (Bytes bytes) rest × (kind_of call ≡ kind_bytes asked) × (got ≡ length bytes) × (got < asked)
+IsTreeFault file IsTree rest t (walk.Short asked got) =
+    (call : Call) × (bytes : List ℕ) × IsLast call (Bytes bytes) rest × (kind_of call ≡ kind_bytes asked) × (got ≡ length bytes) × (got < asked)
 IsTreeFault file IsTree rest t (walk.Failed faults) = IsFailed IsTree t faults
 IsTreeFault file IsTree rest t walk.Memory = Unit {0}
 
@@ -72,7 +73,8 @@ abbrev pub IsTreeTo : Type 0 → ℕ → ℕ → ℕ → Call → Type 0
 IsTreeTo is_local file size to call = IsTreeCall is_local file (block_count size) (block_count to) call
 
 -- nothing changed, for this cause, and of these calls on the file's bytes the first were made
-pub record IsKept (is_local : Type 0) (file : ℕ) (IsFor : Call → Type 0) (calls : List Call) (before after : Meaning) (x y : Option Held) (t : Trace) (why : WalkFault) : Type 0 where
+pub record IsKept (is_local : Type 0) (file : ℕ) (IsFor : Call → Type 0) (calls : List Call) (before after : Meaning) (x y : Option Held) (t : Trace)
+    (why : WalkFault) : Type 0 where
   pub kept : Each before Only t.own (λ c. IsNow before after file x y c c)
   pub asked : AreBegun before Only [] calls t why
   pub blame : IsFileBlame is_local x file IsFor before Only (λ c. c) t why
@@ -98,7 +100,8 @@ pub record IsWhole (file size at : ℕ) (bytes : List ℕ) (before after : Meani
   pub content : Each before (λ c. IsVersion c at bytes (length bytes)) t.own (λ c. IsNow before after file x y c (version c at bytes (length bytes)))
 
 -- the first n bytes are in place, and no more, for this cause
-pub record IsStopped (is_local : Type 0) (file size at : ℕ) (bytes : List ℕ) (n : ℕ) (before after : Meaning) (x y : Option Held) (t : Trace) (why : WalkFault) : Type 0 where
+pub record IsStopped (is_local : Type 0) (file size at : ℕ) (bytes : List ℕ) (n : ℕ) (before after : Meaning) (x y : Option Held) (t : Trace)
+    (why : WalkFault) : Type 0 where
   pub writes : WritesTo is_local file at (length bytes) n t.own
   pub asked : AreBegun before (λ c. IsVersion c at bytes n) (write_calls file size at (length bytes) n) (block_calls file size at (at + length bytes) ((at + n) / 4096)) t why
   pub content : Each before (λ c. IsVersion c at bytes n) t.own
@@ -107,7 +110,8 @@ pub record IsStopped (is_local : Type 0) (file size at : ℕ) (bytes : List ℕ)
   pub blame : IsFileBlame is_local x file (IsForFileWrite is_local file size at (length bytes)) before (λ c. IsVersion c at bytes n) (λ c. version c at bytes n) t why
 
 -- a write that ended early: some of the bytes are in place, up to the end of a block
-pub record IsShortWrite (is_local : Type 0) (file size at : ℕ) (bytes : List ℕ) (n : ℕ) (before after : Meaning) (x y : Option Held) (t : Trace) (why : RwFault) : Type 0 where
+pub record IsShortWrite (is_local : Type 0) (file size at : ℕ) (bytes : List ℕ) (n : ℕ) (before after : Meaning) (x y : Option Held) (t : Trace)
+    (why : RwFault) : Type 0 where
   pub some : 0 < n
   pub few : n < length bytes
   pub border : (at + n) % 4096 ≡ 0
@@ -152,7 +156,8 @@ pub record IsResized (file size to : ℕ) (before after : Meaning) (x y : Option
   pub content : Each before Only t.own (λ c. IsNow before after file x y c (resized c to))
 
 -- nothing changed, for this cause, and of these calls on the file's bytes the first were made
-pub record IsUncut (is_local : Type 0) (file size to : ℕ) (order : List Call) (before after : Meaning) (x y : Option Held) (t : Trace) (why : WalkFault) : Type 0 where
+pub record IsUncut (is_local : Type 0) (file size to : ℕ) (order : List Call) (before after : Meaning) (x y : Option Held) (t : Trace)
+    (why : WalkFault) : Type 0 where
   pub calls : CutsNone is_local file to t.own
   pub asked : AreBegun before Only [] order t why
   pub content : Each before Only t.own (λ c. IsNowOr (IsUncounted is_local file (IsTreeTo is_local file size to) (Resize file to) t why) before after file x y c c (resized c to))

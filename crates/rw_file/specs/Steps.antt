@@ -75,7 +75,8 @@ pub record IsPrepared (file i : ℕ) (calls : List Call) (before after : Meaning
 
 abbrev pub PrepareOutcome : Type 0 → ℕ → ℕ → ℕ → Meaning → Meaning → Option Held → Option Held → Result Place WalkFault → Trace → Type 0
 PrepareOutcome is_local file size i before after x y (Ok anchor) t = IsPrepared file i [] before after x y anchor t
-PrepareOutcome is_local file size i before after x y (Err why) t = IsKept is_local file (IsTreeCall is_local file (block_count size) (block_count size)) [] before after x y t why
+PrepareOutcome is_local file size i before after x y (Err why) t =
+    IsKept is_local file (IsTreeCall is_local file (block_count size) (block_count size)) [] before after x y t why
 
 -- the same, and the bytes that the file has in the block were heard
 pub record IsBrought (file size i : ℕ) (before after : Meaning) (x y : Option Held) (raw : List ℕ) (anchor : Place) (t : Trace) : Type 0 where
@@ -87,7 +88,8 @@ pub record IsBrought (file size i : ℕ) (before after : Meaning) (x y : Option 
 
 abbrev pub BringOutcome : Type 0 → ℕ → ℕ → ℕ → Meaning → Meaning → Option Held → Option Held → List ℕ → Result Place WalkFault → Trace → Type 0
 BringOutcome is_local file size i before after x y raw (Ok anchor) t = IsBrought file size i before after x y raw anchor t
-BringOutcome is_local file size i before after x y raw (Err why) t = IsKept is_local file (IsForBlock is_local file size i) (block_read file size i ∷ []) before after x y t why
+BringOutcome is_local file size i before after x y raw (Err why) t =
+    IsKept is_local file (IsForBlock is_local file size i) (block_read file size i ∷ []) before after x y t why
 
 -- the bytes from one place to another of a block were served
 pub record IsServed (file size i from to : ℕ) (before after : Meaning) (x y : Option Held) (old new : List ℕ) (t : Trace) : Type 0 where
@@ -96,9 +98,11 @@ pub record IsServed (file size i from to : ℕ) (before after : Meaning) (x y : 
   pub count : length new ≡ length old + (to - from)
   pub content : Each before Only t.own (λ c. IsNow before after file x y c c × (new ≡ old ++ slice_range (block c i) from to))
 
-abbrev pub ServeOutcome : Type 0 → ℕ → ℕ → ℕ → ℕ → ℕ → Meaning → Meaning → Option Held → Option Held → List ℕ → List ℕ → Result (Unit {0}) WalkFault → Trace → Type 0
+abbrev pub ServeOutcome : Type 0 → ℕ → ℕ → ℕ → ℕ → ℕ → Meaning → Meaning → Option Held → Option Held → List ℕ → List ℕ →
+    Result (Unit {0}) WalkFault → Trace → Type 0
 ServeOutcome is_local file size i from to before after x y old new (Ok _) t = IsServed file size i from to before after x y old new t
-ServeOutcome is_local file size i from to before after x y old new (Err why) t = IsKept is_local file (IsForBlock is_local file size i) (block_read file size i ∷ []) before after x y t why
+ServeOutcome is_local file size i from to before after x y old new (Err why) t =
+    IsKept is_local file (IsForBlock is_local file size i) (block_read file size i ∷ []) before after x y t why
 
 -- the reads of so many blocks from that of a place on
 abbrev pub block_reads : ℕ → ℕ → ℕ → ℕ → List Call
@@ -125,7 +129,8 @@ pub record IsBased (file size at len : ℕ) (before after : Meaning) (x y : Opti
   pub asked : AreAsked before Only (bare_read file size at (at + len) (at / 4096)) t
   pub content : Each before Only t.own (λ c. IsNow before after file x y c c × Fits at len c page)
 
-abbrev pub BaseOutcome : Type 0 → ℕ → ℕ → ℕ → ℕ → Meaning → Meaning → Option Held → Option Held → List ℕ → Result (Unit {0}) WalkFault → Trace → Type 0
+abbrev pub BaseOutcome : Type 0 → ℕ → ℕ → ℕ → ℕ → Meaning → Meaning → Option Held → Option Held → List ℕ → Result (Unit {0}) WalkFault → Trace →
+    Type 0
 BaseOutcome is_local file size at len before after x y page (Ok _) t = IsBased file size at len before after x y page t
 BaseOutcome is_local file size at len before after x y page (Err why) t =
     IsKept is_local file (IsForFileWrite is_local file size at len) (bare_read file size at (at + len) (at / 4096)) before after x y t why
@@ -135,7 +140,8 @@ abbrev pub with_leaf : ℕ → Digest → List Digest → List Digest
 with_leaf i d ds = if nat_lt i (length ds) then set ds i d else leaves_resized (i + 1) (Some d) ds
 
 -- bytes of one block were written, or nothing changed
-pub record IsBlockKept (is_local : Type 0) (file size at : ℕ) (part : List ℕ) (before after : Meaning) (x y : Option Held) (t : Trace) (why : WalkFault) : Type 0 where
+pub record IsBlockKept (is_local : Type 0) (file size at : ℕ) (part : List ℕ) (before after : Meaning) (x y : Option Held) (t : Trace)
+    (why : WalkFault) : Type 0 where
   pub asked : AreBegun before Only [] (block_calls file size at (at + length part) (at / 4096)) t why
   pub writes : (changes_in t.own ≡ []) ⊎ ((is_local → ⊥) × (changes_in t.own ≡ FileWrite file at (length part) ∷ []))
   pub content : Each before Only t.own
@@ -150,8 +156,10 @@ pub record IsPut (file size at : ℕ) (part : List ℕ) (before after : Meaning)
   pub content : Each before Only t.own (λ c. IsNow before after file x y c (over c at part))
 
 abbrev pub BlockOutcome : Type 0 → ℕ → ℕ → ℕ → List ℕ → Standing → Standing → Option Held → Option Held → Result (Unit {0}) WalkFault → Trace → Type 0
-BlockOutcome is_local file size at part stands stands2 x y (Ok _) t = IsPut file size at part (meaning size stands) (meaning (max size (at + length part)) stands2) x y t
-BlockOutcome is_local file size at part stands stands2 x y (Err why) t = IsBlockKept is_local file size at part (meaning size stands) (meaning size stands2) x y t why
+BlockOutcome is_local file size at part stands stands2 x y (Ok _) t =
+    IsPut file size at part (meaning size stands) (meaning (max size (at + length part)) stands2) x y t
+BlockOutcome is_local file size at part stands stands2 x y (Err why) t =
+    IsBlockKept is_local file size at part (meaning size stands) (meaning size stands2) x y t why
 
 -- so many bytes of a write are in place
 pub record IsPlacedTo (file size at : ℕ) (bytes : List ℕ) (n : ℕ) (before after : Meaning) (x y : Option Held) (t : Trace) : Type 0 where
@@ -175,7 +183,8 @@ abbrev pub WriteOutOutcome : ℕ → ℕ → List ℕ → Option Held → Option
 WriteOutOutcome file at part x y (Ok _) t = (t.failed ≡ 0) × (t.own ≡ (FileWrite file at (length part), Done) ∷ []) × ((content : List ℕ) → IsAtHost x file content → IsAtHost y file (over content at part)) × SameTree file x y
 WriteOutOutcome file at part x y (Err (walk.Mismatch m)) t = ⊥
 WriteOutOutcome file at part x y (Err (walk.Short asked got)) t = ⊥
-WriteOutOutcome file at part x y (Err (walk.Failed faults)) t = AllStill file x y × IsFailed (IsThis (FileWrite file at (length part))) t faults × (t.own ≡ [])
+WriteOutOutcome file at part x y (Err (walk.Failed faults)) t =
+    AllStill file x y × IsFailed (IsThis (FileWrite file at (length part))) t faults × (t.own ≡ [])
 WriteOutOutcome file at part x y (Err walk.Memory) t = AllStill file x y × IsScarce t × (t.own ≡ [])
 
 -- how many calls ask for the page under a write: none where the block is new
@@ -202,7 +211,8 @@ pub record IsDigested (file size to : ℕ) (before after : Meaning) (x y : Optio
 
 abbrev pub DigestOutcome : Type 0 → ℕ → ℕ → ℕ → Meaning → Meaning → Option Held → Option Held → Result Digest WalkFault → Trace → Type 0
 DigestOutcome is_local file size to before after x y (Ok d) t = IsDigested file size to before after x y d t
-DigestOutcome is_local file size to before after x y (Err why) t = IsKept is_local file (IsForBlock is_local file size (to / 4096)) (block_read file size (to / 4096) ∷ []) before after x y t why
+DigestOutcome is_local file size to before after x y (Err why) t =
+    IsKept is_local file (IsForBlock is_local file size (to / 4096)) (block_read file size (to / 4096) ∷ []) before after x y t why
 
 -- with this last digest, the list of the content's is that of the content with another size
 abbrev pub FitsLast : ℕ → Option Digest → List ℕ → Type 0
@@ -215,11 +225,16 @@ pub record IsCut (Fits : List ℕ → Type 0) (file to : ℕ) (calls : List Call
   pub asked : AreAsked before Only calls t
   pub content : Each before Only t.own (λ c. Fits c → IsNow before after file x y c (resized c to))
 
-abbrev pub CutTreeOutcome : Type 0 → ℕ → ℕ → ℕ → Option Digest → Standing → Standing → Option Held → Option Held → Result (Unit {0}) WalkFault → Trace → Type 0
-CutTreeOutcome is_local file size to last stands stands2 x y (Ok _) t = IsCut (FitsLast to last) file to (Resize file to ∷ []) (meaning size stands) (meaning to stands2) x y t
-CutTreeOutcome is_local file size to last stands stands2 x y (Err why) t = IsUncut is_local file size to (Resize file to ∷ []) (meaning size stands) (meaning size stands2) x y t why
+abbrev pub CutTreeOutcome : Type 0 → ℕ → ℕ → ℕ → Option Digest → Standing → Standing → Option Held → Option Held → Result (Unit {0}) WalkFault →
+    Trace → Type 0
+CutTreeOutcome is_local file size to last stands stands2 x y (Ok _) t =
+    IsCut (FitsLast to last) file to (Resize file to ∷ []) (meaning size stands) (meaning to stands2) x y t
+CutTreeOutcome is_local file size to last stands stands2 x y (Err why) t =
+    IsUncut is_local file size to (Resize file to ∷ []) (meaning size stands) (meaning size stands2) x y t why
 
 -- what came of a new size, of another number of bytes
 abbrev pub ChangeOutcome : Type 0 → ℕ → ℕ → ℕ → Standing → Standing → Option Held → Option Held → Result (Unit {0}) WalkFault → Trace → Type 0
-ChangeOutcome is_local file size to stands stands2 x y (Ok _) t = IsCut (λ c. Unit {0}) file to (cut_calls file size to) (meaning size stands) (meaning to stands2) x y t
-ChangeOutcome is_local file size to stands stands2 x y (Err why) t = IsUncut is_local file size to (cut_calls file size to) (meaning size stands) (meaning size stands2) x y t why
+ChangeOutcome is_local file size to stands stands2 x y (Ok _) t =
+    IsCut (λ c. Unit {0}) file to (cut_calls file size to) (meaning size stands) (meaning to stands2) x y t
+ChangeOutcome is_local file size to stands stands2 x y (Err why) t =
+    IsUncut is_local file size to (cut_calls file size to) (meaning size stands) (meaning size stands2) x y t why
