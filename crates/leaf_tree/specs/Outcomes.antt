@@ -41,8 +41,10 @@ abbrev pub Keeps : (List Digest → Type 0) → (List Digest → Type 0) → (Li
 Keeps before after made = (ds : List Digest) → before ds → after (made ds)
 
 -- the same, and whatever a host backed of the list it backs of the one that it becomes
-abbrev pub KeepsBacked : (List Digest → Type 0) → (ℕ → Option Held → List Digest → Type 0) → (ℕ → Option Held → List Digest → Type 0) → (List Digest → List Digest) → Type 0
-KeepsBacked before backed backed2 made = (ds : List Digest) → before ds → (file : ℕ) (held : Option Held) → backed file held ds → backed2 file held (made ds)
+abbrev pub KeepsBacked : (List Digest → Type 0) → (ℕ → Option Held → List Digest → Type 0) → (ℕ → Option Held → List Digest → Type 0) →
+    (List Digest → List Digest) → Type 0
+KeepsBacked before backed backed2 made =
+    (ds : List Digest) → before ds → (file : ℕ) (held : Option Held) → backed file held ds → backed2 file held (made ds)
 
 -- What becomes of a list: the tree stands for it; and the host backs it, where it backed the list before.
 pub record IsBecome (after : Standing) (x y : Option Held) (BackedBefore : Type 0) (made : List Digest) : Type 0 where
@@ -52,7 +54,8 @@ pub record IsBecome (after : Standing) (x y : Option Held) (BackedBefore : Type 
 -- Each list that the tree stood for becomes one that it stands for, where no two different ones of what was hashed share a
 -- digest; and so with what the host backed.
 abbrev pub Becomes : Standing → Standing → Option Held → Option Held → (List Digest → List Digest) → Exchanges → Type 0
-Becomes before after x y made own = (ds : List Digest) → before.stands ds → NoClash (IsTreeHashed ds own) → IsBecome after x y (before.backed x ds) (made ds)
+Becomes before after x y made own =
+    (ds : List Digest) → before.stands ds → NoClash (IsTreeHashed ds own) → IsBecome after x y (before.backed x ds) (made ds)
 
 -- a call for a page of the tree of a file whose number of blocks lies between these two; none where the tree is local
 pub record IsTreeCall (is_local : Type 0) (file a b : ℕ) (call : Call) : Type 0 where
@@ -87,6 +90,7 @@ IsTreeBlame file IsFor before x t (fault.Failed faults) = IsFailed IsFor t fault
 IsTreeBlame file IsFor before x t fault.Memory = t.failed ≡ 0
 
 -- What comes of a call that changes the lists so. After a fault they are as before. No call of one that comes to its end failed.
-abbrev pub TreeOutcome : ℕ → (Call → Type 0) → Standing → Standing → Option Held → Option Held → (List Digest → List Digest) → Result (Unit {0}) WalkFault → Trace → Type 0
+abbrev pub TreeOutcome : ℕ → (Call → Type 0) → Standing → Standing → Option Held → Option Held → (List Digest → List Digest) →
+    Result (Unit {0}) WalkFault → Trace → Type 0
 TreeOutcome file IsFor before after x y made (Ok _) t = (t.failed ≡ 0) × Becomes before after x y made t.own
 TreeOutcome file IsFor before after x y made (Err e) t = Becomes before after x y (λ ds. ds) t.own × IsTreeBlame file IsFor before x t e

@@ -34,7 +34,8 @@ HandsPage call given = given ≡ []
 
 -- Each call that was made, failed ones too, belongs to the work and hands over what it has to; at most so many of them change the
 -- file's bytes or its size, and at most so many ask for bytes; none follows one that failed; and this came of them.
-pub record Worked (Hands : Call → List ℕ → Type 0) (puts : ℕ) (IsFor : Call → Type 0) (most : ℕ) (old new : Told) (Outcome : Trace → Type 0) : Type 0 where
+pub record Worked (Hands : Call → List ℕ → Type 0) (puts : ℕ) (IsFor : Call → Type 0) (most : ℕ) (old new : Told)
+    (Outcome : Trace → Type 0) : Type 0 where
   pub own : List Made
   pub talked : Talked old new own
   pub calls : Each (λ call given. IsFor call) own

@@ -12,7 +12,8 @@ use Rattle.rw_file.specs.Calls.{change_in, changes_in, block_write, block_writes
 
 pub changes_in-append : (x y : Exchanges) → changes_in (x ++ y) ≡ changes_in x ++ changes_in y
 changes_in-append [] y = refl
-changes_in-append (e ∷ x) y = ap (λ (l : List Call). change_in e.0 ++ l) (changes_in-append x y) ∙ sym (append_assoc (change_in e.0) (changes_in x) (changes_in y))
+changes_in-append (e ∷ x) y =
+    ap (λ (l : List Call). change_in e.0 ++ l) (changes_in-append x y) ∙ sym (append_assoc (change_in e.0) (changes_in x) (changes_in y))
 
 -- no changes, and then these
 pub none_then : (x y : Exchanges) (l : List Call) → changes_in x ≡ [] → changes_in y ≡ l → changes_in (x ++ y) ≡ l
@@ -47,10 +48,12 @@ one_none call (Some said) e = ap (λ (l : List Call). l ++ []) (no_change call e
 
 none_put : (own : List Made) → puts_of own ≡ 0 → changes_in (heard_of own) ≡ []
 none_put [] e = refl
-none_put (m ∷ own) e = none_then (exchange_of m.call m.came) (heard_of own) [] (one_none m.call m.came (omega (arith, e))) (none_put own (omega (arith, e)))
+none_put (m ∷ own) e =
+    none_then (exchange_of m.call m.came) (heard_of own) [] (one_none m.call m.came (omega (arith, e))) (none_put own (omega (arith, e)))
 
 -- work that makes no call on a file's bytes changes none
-pub worked_changes : (H : Call → List ℕ → Type 0) (F : Call → Type 0) (m : ℕ) (a b : Told) (P : Trace → Type 0) → Worked H 0 F m a b P → Worked H 0 F m a b (λ t. P t × (changes_in t.own ≡ []))
+pub worked_changes : (H : Call → List ℕ → Type 0) (F : Call → Type 0) (m : ℕ) (a b : Told) (P : Trace → Type 0) → Worked H 0 F m a b P →
+    Worked H 0 F m a b (λ t. P t × (changes_in t.own ≡ []))
 worked_changes H F m a b P d = record {
   own = d.own;
   talked = d.talked;

@@ -13,7 +13,8 @@ use Rattle.rw_file.proofs.Bytes.{lt_or_le, is_block, same_block, get_or-block, l
 use Rattle.rw_file.proofs.Splicing.{length-zeros_to, get_or-zeros_to, set_digests}
 
 -- a page of the block, with zeros from the cut on
-pub cut_block : (c : List ℕ) (to : ℕ) (p q : List ℕ) → p ≡ block c (to / 4096) → q ≡ take (to % 4096) p ++ replicate (4096 - to % 4096) 0 → q ≡ block (resized c to) (to / 4096)
+pub cut_block : (c : List ℕ) (to : ℕ) (p q : List ℕ) → p ≡ block c (to / 4096) → q ≡ take (to % 4096) p ++ replicate (4096 - to % 4096) 0 →
+    q ≡ block (resized c to) (to / 4096)
 cut_block c to p q is made =
     let i : ℕ = to / 4096 in
     let o : ℕ = to % 4096 in
@@ -30,7 +31,8 @@ cut_block c to p q is made =
 
 -- the blocks that end within the new size stay
 whole_stays : (c : List ℕ) (to j : ℕ) → 4096 * j + 4096 ≤ to → leaf_of c j ≡ leaf_of (resized c to) j
-whole_stays c to j le = same_leaf c (resized c to) j (same_block c (resized c to) j (λ k lt. sym (resized-before c to (4096 * j + k) (omega (arith, lt, le)))))
+whole_stays c to j le =
+    same_leaf c (resized c to) j (same_block c (resized c to) j (λ k lt. sym (resized-before c to (4096 * j + k) (omega (arith, lt, le)))))
 
 -- all blocks stay where the file grows
 grown_stays : (c : List ℕ) (to j : ℕ) → length c ≤ to → leaf_of c j ≡ leaf_of (resized c to) j

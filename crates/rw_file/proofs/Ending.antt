@@ -21,23 +21,27 @@ use Rattle.rw_file.proofs.Bringing.{tree_kept}
 use Rattle.rw_file.proofs.Serving.{says_because}
 
 module _ (is_local : Type 0) (file size count : ℕ) (same : count ≡ block_count size) (stands stands2 : Standing) (x y : Told) where
-  at_size : (r : Result (Unit {0}) WalkFault) → Worked HandsPage 0 (IsTreeCall is_local file count count) 0 x y (TreeOutcome file (IsTreeCall is_local file count count) stands stands2 x.held y.held (λ ds. ds) r) →
+  at_size : (r : Result (Unit {0}) WalkFault) →
+      Worked HandsPage 0 (IsTreeCall is_local file count count) 0 x y (TreeOutcome file (IsTreeCall is_local file count count) stands stands2 x.held y.held (λ ds. ds) r) →
       Worked HandsPage 0 (IsTreeCall is_local file (block_count size) (block_count size)) 0 x y (TreeOutcome file (IsTreeCall is_local file (block_count size) (block_count size)) stands stands2 x.held y.held (λ ds. ds) r)
   at_size r d = subst (λ (n : ℕ). Worked HandsPage 0 (IsTreeCall is_local file n n) 0 x y (TreeOutcome file (IsTreeCall is_local file n n) stands stands2 x.held y.held (λ ds. ds) r)) same d
 
-  pub sync_bad : (w : WalkFault) → (is_local → ⊥) → Worked HandsPage 0 (IsTreeCall is_local file count count) 0 x y (TreeOutcome file (IsTreeCall is_local file count count) stands stands2 x.held y.held (λ ds. ds) (Err w)) →
+  pub sync_bad : (w : WalkFault) → (is_local → ⊥) →
+      Worked HandsPage 0 (IsTreeCall is_local file count count) 0 x y (TreeOutcome file (IsTreeCall is_local file count count) stands stands2 x.held y.held (λ ds. ds) (Err w)) →
       Worked HandsPage 0 (IsTreeCall is_local file (block_count size) (block_count size)) 0 x y (SyncOutcome is_local file size (IsTreeCall is_local file (block_count size) (block_count size)) (meaning size stands) (meaning size stands2) x.held y.held (Err (because w)))
   sync_bad w far d =
       worked_so _ _ _ _ _ _ x y _ _ (tree_kept is_local file size (block_count size) (block_count size) 0 0 (IsTreeCall is_local file (block_count size) (block_count size)) stands stands2 (λ ds. ds) x y w far (omega arith) (λ call c. c) (at_size (Err w) d))
-      (λ call c. c) (omega arith) (λ t q. says_because (IsKept is_local file (IsTreeCall is_local file (block_count size) (block_count size)) (meaning size stands) (meaning size stands2) x.held y.held t) _ _ w q)
+      (λ call c. c) (omega arith) (λ t q. says_because (IsKept is_local file (IsTreeCall is_local file (block_count size) (block_count size)) [] (meaning size stands) (meaning size stands2) x.held y.held t) _ _ w q)
 
-  pub sync_ok : (u : Unit {0}) → Worked HandsPage 0 (IsTreeCall is_local file count count) 0 x y (TreeOutcome file (IsTreeCall is_local file count count) stands stands2 x.held y.held (λ ds. ds) (Ok u)) →
+  pub sync_ok : (u : Unit {0}) →
+      Worked HandsPage 0 (IsTreeCall is_local file count count) 0 x y (TreeOutcome file (IsTreeCall is_local file count count) stands stands2 x.held y.held (λ ds. ds) (Ok u)) →
       Worked HandsPage 0 (IsTreeCall is_local file (block_count size) (block_count size)) 0 x y (SyncOutcome is_local file size (IsTreeCall is_local file (block_count size) (block_count size)) (meaning size stands) (meaning size stands2) x.held y.held (Ok u))
   sync_ok u d =
       let e = at_size (Ok u) d in
       worked_as _ _ _ _ 0 0 x y _ _ e (λ call c. c) (omega arith) (e.outcome.0, kept_by size stands stands2 file x.held y.held (heard_of e.own) e.outcome.1 (still_trees is_local file (block_count size) (block_count size) 0 x y _ e))
 
-pub digest_is : (size : ℕ) (stands : List Digest → Type 0) (top salt digest : List ℕ) → size ≤ 4294967296 → ((ds : List Digest) → stands ds → top ≡ tree_root (leaf ds) (length ds)) → salt ≡ [] →
+pub digest_is : (size : ℕ) (stands : List Digest → Type 0) (top salt digest : List ℕ) → size ≤ 4294967296 →
+    ((ds : List Digest) → stands ds → top ≡ tree_root (leaf ds) (length ds)) → salt ≡ [] →
     digest ≡ sha256 (descriptor_bytes (let d : Descriptor = record { size = size; root = record { 0 = top }; salt = salt } in d)) →
     (content : List ℕ) → IsContent size stands content → digest ≡ sha256 (descriptor_bytes (described content))
 digest_is size stands top salt digest few tree none is content c =

@@ -71,18 +71,21 @@ some_none x e = cc
 held_is : (p q : Said × Held) → Some p ≡ Some q → p.1 ≡ q.1
 held_is p q e = let same : p ≡ q = cc in ap (λ (z : Said × Held). z.1) same
 
-one_fails : (h mid : Held) (call : Call) (given : List ℕ) (came : Option Said) (said : Said) (now : Held) (rest : ℕ) → serve h call given ≡ Some (said, now) → Serves true h call given came mid → (now ≡ mid → rest ≡ 0) → one_failure came + rest ≡ 0
+one_fails : (h mid : Held) (call : Call) (given : List ℕ) (came : Option Said) (said : Said) (now : Held) (rest : ℕ) →
+    serve h call given ≡ Some (said, now) → Serves true h call given came mid → (now ≡ mid → rest ≡ 0) → one_failure came + rest ≡ 0
 one_fails h mid call given None said now rest is one later = absurd (some_none (said, now) (sym is ∙ one.1 refl))
 one_fails h mid call given (Some x) said now rest is one later = let none = later (held_is (said, now) (x, mid) (sym is ∙ one)) in omega (arith, none)
 
-none_fail : (F : Call → Type 0) (file : ℕ) (own : List Made) (h k : Held) (f : File) → h.file file ≡ Some f → ((call : Call) → F call → OnFile file call) → ServesAll true h own k → Each (λ call given. F call) own → failures_of own ≡ 0
+none_fail : (F : Call → Type 0) (file : ℕ) (own : List Made) (h k : Held) (f : File) → h.file file ≡ Some f →
+    ((call : Call) → F call → OnFile file call) → ServesAll true h own k → Each (λ call given. F call) own → failures_of own ≡ 0
 none_fail F file [] h k f is on s each = refl
 none_fail F file (m ∷ own) h k f is on s each =
     let v = serves_on h file f is m.given m.call (on m.call each.0) in
     one_fails h s.0 m.call m.given m.came v.said v.now (failures_of own) v.is s.1 (λ same. none_fail F file own s.0 k v.found (ap (λ (z : Held). z.file file) (sym same) ∙ v.there) on s.2 each.1)
 
 -- so none fails, or the count doesn't rise
-pub stays : (F : Call → Type 0) (file : ℕ) (own : List Made) (x y : Told) (c : List ℕ) → ((call : Call) → F call → OnFile file call) → IsAtHost x.held file c → Talked x y own → Each (λ call given. F call) own → Calm x y
+pub stays : (F : Call → Type 0) (file : ℕ) (own : List Made) (x y : Told) (c : List ℕ) → ((call : Call) → F call → OnFile file call) →
+    IsAtHost x.held file c → Talked x y own → Each (λ call given. F call) own → Calm x y
     → failures_of own ≡ 1 → Rose x.faults y.faults → ⊥
 stays F file own x y c on held t each (inl calm) one rose = calm rose
 stays F file own x y c on held t each (inr honest) one rose =
@@ -91,7 +94,7 @@ stays F file own x y c on held t each (inr honest) one rose =
     omega (arith, none, one)
 
 -- the calls of the requests
-tree_on : (is_local : Type 0) (file a b : ℕ) (call : Call) → IsTreeCall is_local file a b call → OnFile file call
+pub tree_on : (is_local : Type 0) (file a b : ℕ) (call : Call) → IsTreeCall is_local file a b call → OnFile file call
 tree_on is_local file a b call t = inr (inl (t.level, t.index, t.call_is))
 
 pub read_on : (is_local : Type 0) (file size at len : ℕ) (call : Call) → IsForFileRead is_local file size at len call → OnFile file call
@@ -110,12 +113,15 @@ cut_on is_local file size to call (other, inr (inr t)) = tree_on is_local file _
 
 -- ---- what is held after the calls
 
-hold_one : (file : ℕ) (honest : Bool) (h mid : Held) (call : Call) (given : List ℕ) (came : Option Said) (f : File) → h.file file ≡ Some f → IsServing f.bytes h file call given → Serves honest h call given came mid
+hold_one : (file : ℕ) (honest : Bool) (h mid : Held) (call : Call) (given : List ℕ) (came : Option Said) (f : File) → h.file file ≡ Some f →
+    IsServing f.bytes h file call given → Serves honest h call given came mid
     → (g : File) × (mid.file file ≡ Some g) × (g.bytes ≡ after_one f.bytes call given came)
 hold_one file honest h mid call given None f is v s = (f, ap (λ (z : Held). z.file file) s.0 ∙ is, refl)
-hold_one file honest h mid call given (Some x) f is v s = (v.found, ap (λ (z : Held). z.file file) (sym (held_is (v.said, v.now) (x, mid) (sym v.is ∙ s))) ∙ v.there, v.kept)
+hold_one file honest h mid call given (Some x) f is v s =
+    (v.found, ap (λ (z : Held). z.file file) (sym (held_is (v.said, v.now) (x, mid) (sym v.is ∙ s))) ∙ v.there, v.kept)
 
-hold_all : (F : Call → Type 0) (file : ℕ) (honest : Bool) (own : List Made) (h k : Held) (f : File) → h.file file ≡ Some f → ((call : Call) → F call → OnFile file call) → ServesAll honest h own k → Each (λ call given. F call) own
+hold_all : (F : Call → Type 0) (file : ℕ) (honest : Bool) (own : List Made) (h k : Held) (f : File) → h.file file ≡ Some f →
+    ((call : Call) → F call → OnFile file call) → ServesAll honest h own k → Each (λ call given. F call) own
     → (g : File) × (k.file file ≡ Some g) × (g.bytes ≡ after_calls f.bytes own)
 hold_all F file honest [] h k f is on s each = (f, ap (λ (z : Held). z.file file) s ∙ is, refl)
 hold_all F file honest (m ∷ own) h k f is on s each =
@@ -123,14 +129,17 @@ hold_all F file honest (m ∷ own) h k f is on s each =
     let rest = hold_all F file honest own s.0 k one.0 one.1 on s.2 each.1 in
     (rest.0, rest.1, rest.2 ∙ ap (λ (b : List ℕ). after_calls b own) one.2)
 
-held_after : (F : Call → Type 0) (file : ℕ) (x y : Told) (own : List Made) (c : List ℕ) → ((call : Call) → F call → OnFile file call) → Talked x y own → Each (λ call given. F call) own → IsAtHost x.held file c → IsAtHost y.held file (after_calls c own)
+pub held_after : (F : Call → Type 0) (file : ℕ) (x y : Told) (own : List Made) (c : List ℕ) → ((call : Call) → F call → OnFile file call) →
+    Talked x y own → Each (λ call given. F call) own → IsAtHost x.held file c → IsAtHost y.held file (after_calls c own)
 held_after F file x y own c on t each held =
     let after : (k : Held) × (y.held ≡ Some k) × ServesAll x.honest held.all own k = subst (λ z. HeldAfter x.honest z own y.held) held.told t.held in
     let all = hold_all F file x.honest own held.all after.0 held.found held.file_is on after.2 each in
     record { all = after.0; told = after.1; found = all.0; file_is = all.1; bytes = all.2 ∙ ap (λ (b : List ℕ). after_calls b own) held.bytes }
 
 pub writes_held : (is_local : Type 0) → WritesAreHeld is_local
-writes_held is_local file size at len x y own c t each held = held_after (IsForFileWrite is_local file size at len) file x y own c (write_on is_local file size at len) t each held
+writes_held is_local file size at len x y own c t each held =
+    held_after (IsForFileWrite is_local file size at len) file x y own c (write_on is_local file size at len) t each held
 
 pub cuts_held : (is_local : Type 0) → CutsAreHeld is_local
-cuts_held is_local file size to x y own c t each held = held_after (IsForCut is_local file size to) file x y own c (cut_on is_local file size to) t each held
+cuts_held is_local file size to x y own c t each held =
+    held_after (IsForCut is_local file size to) file x y own c (cut_on is_local file size to) t each held

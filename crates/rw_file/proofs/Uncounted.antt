@@ -13,20 +13,24 @@ use Rattle.rw_file.specs.Rows.{IsTreeFault, IsUncounted}
 
 -- the tree's blame, after other calls
 module _ (file : ℕ) (F G : Call → Type 0) (wider : (call : Call) → F call → G call) (x y z : Told) (le : x.faults ≤ y.faults) where
-  pub fault_of : (stands : Standing) (held : Option Held) (a b : Exchanges) (failed : ℕ) (why : WalkFault) → IsTreeBlame file F stands held (trace_of b failed y z) why → IsTreeFault file G b (trace_of (a ++ b) failed x z) why
+  pub fault_of : (stands : Standing) (held : Option Held) (a b : Exchanges) (failed : ℕ) (why : WalkFault) →
+      IsTreeBlame file F stands held (trace_of b failed y z) why → IsTreeFault file G b (trace_of (a ++ b) failed x z) why
   fault_of stands held a b failed (walk.Mismatch m) q = (q.0.bytes, q.0.own)
-  fault_of stands held a b failed (walk.Short asked got) q = (q.0.short.call, q.0.short.bytes, q.0.last, q.0.short.asks, q.0.short.got_is, q.0.short.short)
+  fault_of stands held a b failed (walk.Short asked got) q =
+      (q.0.short.call, q.0.short.bytes, q.0.last, q.0.short.asks, q.0.short.got_is, q.0.short.short)
   fault_of stands held a b failed (walk.Failed faults) q = failed_later G x y z a b failed faults le (failed_so F G _ faults wider q)
   fault_of stands held a b failed walk.Memory q = tt
 
-  fault_later : (rest a b : Exchanges) (failed : ℕ) (why : WalkFault) → IsTreeFault file F rest (trace_of b failed y z) why → IsTreeFault file G rest (trace_of (a ++ b) failed x z) why
+  fault_later : (rest a b : Exchanges) (failed : ℕ) (why : WalkFault) → IsTreeFault file F rest (trace_of b failed y z) why →
+      IsTreeFault file G rest (trace_of (a ++ b) failed x z) why
   fault_later rest a b failed (walk.Mismatch m) q = q
   fault_later rest a b failed (walk.Short asked got) q = q
   fault_later rest a b failed (walk.Failed faults) q = failed_later G x y z a b failed faults le (failed_so F G _ faults wider q)
   fault_later rest a b failed walk.Memory q = tt
 
   -- the same after other calls, in wider words
-  pub uncounted_on : (is_local : Type 0) (call other : Call) (a b : Exchanges) (failed : ℕ) (why : WalkFault) → call ≡ other → IsUncounted is_local file F call (trace_of b failed y z) why → IsUncounted is_local file G other (trace_of (a ++ b) failed x z) why
+  pub uncounted_on : (is_local : Type 0) (call other : Call) (a b : Exchanges) (failed : ℕ) (why : WalkFault) → call ≡ other →
+      IsUncounted is_local file F call (trace_of b failed y z) why → IsUncounted is_local file G other (trace_of (a ++ b) failed x z) why
   uncounted_on is_local call other a b failed why same u = record {
     far = u.far;
     before = a ++ u.before;

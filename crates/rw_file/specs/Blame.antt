@@ -21,7 +21,8 @@ Each before IsVersion own P = (content : List ℕ) → before.is content → NoC
 
 -- A block or a page of the tree, the last that was heard, has another digest than it must have: that of the page of the bytes that
 -- the file stands for afterwards. No call failed.
-pub record IsFileMismatch (file : ℕ) (before : Meaning) (IsVersion : List ℕ → List ℕ → Type 0) (made : List ℕ → List ℕ) (t : Trace) (x : Mismatch) : Type 0 where
+pub record IsFileMismatch (file : ℕ) (before : Meaning) (IsVersion : List ℕ → List ℕ → Type 0) (made : List ℕ → List ℕ) (t : Trace)
+    (x : Mismatch) : Type 0 where
   pub failed : t.failed ≡ 0
   pub differ : x.expected.0 ≢ x.found.0
   pub bytes : List ℕ
@@ -37,8 +38,10 @@ abbrev pub Lied : Option Held → ℕ → Meaning → (List ℕ → List ℕ →
 Lied held file before IsVersion own = Each before IsVersion own (λ content. IsAtHost held file content → before.backed held content → ⊥)
 
 -- the cause of what was not done
-abbrev pub IsFileBlame : Type 0 → Option Held → ℕ → (Call → Type 0) → Meaning → (List ℕ → List ℕ → Type 0) → (List ℕ → List ℕ) → Trace → WalkFault → Type 0
-IsFileBlame is_local held file IsFor before IsVersion made t (walk.Mismatch x) = IsFileMismatch file before IsVersion made t x × Lied held file before IsVersion t.own
+abbrev pub IsFileBlame : Type 0 → Option Held → ℕ → (Call → Type 0) → Meaning → (List ℕ → List ℕ → Type 0) → (List ℕ → List ℕ) → Trace → WalkFault →
+    Type 0
+IsFileBlame is_local held file IsFor before IsVersion made t (walk.Mismatch x) =
+    IsFileMismatch file before IsVersion made t x × Lied held file before IsVersion t.own
 IsFileBlame is_local held file IsFor before IsVersion made t (walk.Short asked got) = IsLastShort t asked got × Lied held file before IsVersion t.own
 IsFileBlame is_local held file IsFor before IsVersion made t (walk.Failed faults) = IsFailed IsFor t faults
 IsFileBlame is_local held file IsFor before IsVersion made t walk.Memory = (t.failed ≡ 0) × (is_local → t.scarce ≡ true)

@@ -1,11 +1,11 @@
 -- Requests on a file, over a host that held its bytes and the pages of its tree that the file's tree would ask for, where no call is
 -- to blame.
-use Rattle.std.specs.Prelude.{true, ◌≡◌, ◌⊎◌, ℕ, ◌+◌, ◌<◌, List, [], ◌∷◌, length, Option, Some, None, Result, Ok, Err}
+use Rattle.std.specs.Prelude.{true, ◌≡◌, ◌≢◌, ◌⊎◌, ℕ, ◌+◌, ◌<◌, List, [], ◌∷◌, length, Option, Some, None, Result, Ok, Err}
 use Rattle.host_traits.specs.Told.{Told, Talked, Made, Calm, heard_of}
 use Rattle.host_traits.specs.declared.calls.Call.{Call}
 use Rattle.host_traits.specs.declared.calls.Call.TheVariants.{FileWrite, Resize}
 use Rattle.host_traits.specs.declared.calls.Said.{Said}
-use Rattle.host_traits.specs.Held.{over, resized}
+use Rattle.host_traits.specs.Held.{Held, over, resized}
 use Rattle.host_traits.specs.Did.{Each}
 use Rattle.leaf_tree.specs.Worked.{Worked, HandsPage}
 use Rattle.sha_tree.specs.Path.{NoClash}
@@ -14,8 +14,8 @@ use Rattle.rw_file.specs.declared.faults.RwFault.{RwFault}
 use Rattle.rw_file.specs.declared.faults.RwFault.TheVariants as fault
 use Rattle.rw_file.specs.declared.faults.Written.{Written}
 use Rattle.rw_file.specs.Contents.{Meaning, IsAtHost, IsFileHashed, IsVersion, Only}
-use Rattle.rw_file.specs.Calls.{IsForFileRead, IsForFileWrite, IsForCut, most_read, most_write, most_cut, Hands}
-use Rattle.rw_file.specs.Rows.{ReadOutcome, WriteOutcome, CutOutcome}
+use Rattle.rw_file.specs.Calls.{IsForFileRead, IsForFileWrite, IsForCut, IsForSync, most_read, most_write, most_cut, Hands}
+use Rattle.rw_file.specs.Rows.{ReadOutcome, WriteOutcome, CutOutcome, SyncOutcome}
 
 -- a read that isn't done wanted memory, and the host may
 abbrev pub ReadsAreServed : Type 0 → ℕ → ℕ → Meaning → Meaning → Type 0
@@ -38,6 +38,12 @@ abbrev pub CutsAreDone : Type 0 → ℕ → ℕ → Meaning → Meaning → Type
 CutsAreDone is_local file size before after = (to : ℕ) (x y : Told) (e : RwFault)
     (d : Worked HandsPage 1 (IsForCut is_local file size to) (most_cut size to) x y (CutOutcome is_local file size to before after x.held y.held (Err e))) (c : List ℕ) →
     before.is c → NoClash (IsFileHashed (Only c) (heard_of d.own)) → IsAtHost x.held file c → before.backed x.held c → Calm x y → (e ≡ fault.Memory) ⊎ (4294967296 < to)
+
+-- a sync that isn't done wanted memory, and the host may
+abbrev pub SyncsAreDone : Type 0 → ℕ → ℕ → Meaning → Meaning → Type 0
+SyncsAreDone is_local file size before after = (x y : Told) (e : RwFault)
+    (d : Worked HandsPage 0 (IsForSync is_local file size) 0 x y (SyncOutcome is_local file size (IsForSync is_local file size) before after x.held y.held (Err e))) (c : List ℕ) →
+    before.is c → NoClash (IsFileHashed (Only c) (heard_of d.own)) → IsAtHost x.held file c → before.backed x.held c → Calm x y → (e ≡ fault.Memory) × (is_local → y.scarce ≡ true)
 
 -- ---- what calls make of the bytes of a file, over any host that answers by what it holds
 
@@ -62,3 +68,18 @@ WritesAreHeld is_local = (file size at len : ℕ) (x y : Told) (own : List Made)
 abbrev pub CutsAreHeld : Type 0 → Type 0
 CutsAreHeld is_local = (file size to : ℕ) (x y : Told) (own : List Made) (c : List ℕ) → Talked x y own → Each (λ call given. IsForCut is_local file size to call) own →
     IsAtHost x.held file c → IsAtHost y.held file (after_calls c own)
+
+-- the calls of a request leave the bytes of the file
+abbrev pub BytesStay : ℕ → (Call → Type 0) → Type 0
+BytesStay file IsFor = (x y : Told) (own : List Made) (c : List ℕ) → Talked x y own → Each (λ call given. IsFor call) own → IsAtHost x.held file c → IsAtHost y.held file c
+
+-- ---- and of all else that the host holds
+
+pub record IsSameBut (file : ℕ) (h k : Held) : Type 0 where
+  pub files : (n : ℕ) → n ≢ file → k.file n ≡ h.file n
+  pub disks : (n : ℕ) → k.disk n ≡ h.disk n
+  pub dirs : (n : ℕ) → k.dir n ≡ h.dir n
+
+-- they leave every other file, every disk and every directory
+abbrev pub OthersStay : ℕ → (Call → Type 0) → Type 0
+OthersStay file IsFor = (x y : Told) (own : List Made) (h : Held) → Talked x y own → Each (λ call given. IsFor call) own → x.held ≡ Some h → (k : Held) × (y.held ≡ Some k) × IsSameBut file h k

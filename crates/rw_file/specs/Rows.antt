@@ -1,5 +1,5 @@
 -- What comes of a request on a writable file.
-use Rattle.std.specs.Prelude.{◌≡◌, ◌⊎◌, ℕ, ◌+◌, ◌-◌, ◌%◌, ◌^◌, ◌<◌, min, max, List, [], ◌∷◌, ◌++◌, length, take, drop, Option, Some, None, Result, Ok, Err, nat_eq, if◌then◌else◌}
+use Rattle.std.specs.Prelude.{◌≡◌, ◌⊎◌, ℕ, ◌+◌, ◌-◌, ◌/◌, ◌%◌, ◌^◌, ◌<◌, min, max, List, [], ◌∷◌, ◌++◌, length, take, drop, Option, Some, None, Result, Ok, Err, nat_eq, if◌then◌else◌}
 use Rattle.host_traits.specs.declared.calls.Call.{Call}
 use Rattle.host_traits.specs.Held.{Held, resized}
 use Rattle.host_traits.specs.declared.calls.Call.TheVariants.{TreeRead, FileWrite, Resize}
@@ -17,8 +17,9 @@ use Rattle.rw_file.specs.declared.faults.RwFault.{RwFault}
 use Rattle.rw_file.specs.declared.faults.RwFault.TheVariants as fault
 use Rattle.rw_file.specs.declared.faults.Written.{Written}
 use Rattle.rw_file.specs.Contents.{Meaning, IsSame, IsAtHost, IsVersion, Only, version, next_border}
-use Rattle.rw_file.specs.Calls.{IsForFileRead, IsForFileWrite, IsForCut, changes_in, block_writes, WritesTo, CutsOnce, CutsNone}
+use Rattle.rw_file.specs.Calls.{IsForFileRead, IsForFileWrite, IsForCut, changes_in, block_writes, WritesTo, CutsOnce, CutsNone, read_calls, block_calls, write_calls, cut_calls}
 use Rattle.rw_file.specs.Blame.{Each, IsFileBlame}
+use Rattle.rw_file.specs.Asked.{AreAsked, AreBegun}
 
 -- the fault of a request, from that of one of its parts
 abbrev pub because : WalkFault → RwFault
@@ -46,7 +47,8 @@ pub record IsNow (before after : Meaning) (file : ℕ) (x y : Option Held) (cont
 -- the fault comes from a page of the tree: the last of these calls heard it, or it is a call on the tree that failed
 abbrev pub IsTreeFault : ℕ → (Call → Type 0) → Exchanges → Trace → WalkFault → Type 0
 IsTreeFault file IsTree rest t (walk.Mismatch x) = (bytes : List ℕ) × IsLast (TreeRead file x.level x.index) (Bytes bytes) rest
-IsTreeFault file IsTree rest t (walk.Short asked got) = (call : Call) × (bytes : List ℕ) × IsLast call (Bytes bytes) rest × (kind_of call ≡ kind_bytes asked) × (got ≡ length bytes) × (got < asked)
+IsTreeFault file IsTree rest t (walk.Short asked got) =
+    (call : Call) × (bytes : List ℕ) × IsLast call (Bytes bytes) rest × (kind_of call ≡ kind_bytes asked) × (got ≡ length bytes) × (got < asked)
 IsTreeFault file IsTree rest t (walk.Failed faults) = IsFailed IsTree t faults
 IsTreeFault file IsTree rest t walk.Memory = Unit {0}
 
@@ -70,14 +72,17 @@ pub record IsNowOr (uncounted : Type 0) (before after : Meaning) (file : ℕ) (x
 abbrev pub IsTreeTo : Type 0 → ℕ → ℕ → ℕ → Call → Type 0
 IsTreeTo is_local file size to call = IsTreeCall is_local file (block_count size) (block_count to) call
 
--- nothing changed, for this cause
-pub record IsKept (is_local : Type 0) (file : ℕ) (IsFor : Call → Type 0) (before after : Meaning) (x y : Option Held) (t : Trace) (why : WalkFault) : Type 0 where
+-- nothing changed, for this cause, and of these calls on the file's bytes the first were made
+pub record IsKept (is_local : Type 0) (file : ℕ) (IsFor : Call → Type 0) (calls : List Call) (before after : Meaning) (x y : Option Held) (t : Trace)
+    (why : WalkFault) : Type 0 where
   pub kept : Each before Only t.own (λ c. IsNow before after file x y c c)
+  pub asked : AreBegun before Only [] calls t why
   pub blame : IsFileBlame is_local x file IsFor before Only (λ c. c) t why
 
 -- the bytes of a range, cut at the end; no call failed
 pub record IsRead (file size offset len : ℕ) (before after : Meaning) (x y : Option Held) (bytes : List ℕ) (t : Trace) : Type 0 where
   pub failed : t.failed ≡ 0
+  pub asked : AreAsked before Only (read_calls file size offset (end_of size offset len)) t
   pub count : length bytes ≡ end_of size offset len - offset
   pub content : Each before Only t.own (λ c. IsNow before after file x y c c × (bytes ≡ take len (drop offset c)))
 
@@ -85,24 +90,28 @@ pub record IsRead (file size offset len : ℕ) (before after : Meaning) (x y : O
 abbrev pub ReadOutcome : Type 0 → ℕ → ℕ → ℕ → ℕ → Meaning → Meaning → Option Held → Option Held → List ℕ → Result (Unit {0}) RwFault → Trace → Type 0
 ReadOutcome is_local file size offset len before after x y bytes (Ok _) t = IsRead file size offset len before after x y bytes t
 ReadOutcome is_local file size offset len before after x y bytes (Err e) t =
-    FaultSays (IsKept is_local file (IsForFileRead is_local file size offset len) before after x y t) (λ end. ⊥) ⊥ e
+    FaultSays (IsKept is_local file (IsForFileRead is_local file size offset len) (read_calls file size offset (end_of size offset len)) before after x y t) (λ end. ⊥) ⊥ e
 
 -- all bytes are in place, and zeros between the old end and them; no call failed
-pub record IsWhole (file at : ℕ) (bytes : List ℕ) (before after : Meaning) (x y : Option Held) (t : Trace) : Type 0 where
+pub record IsWhole (file size at : ℕ) (bytes : List ℕ) (before after : Meaning) (x y : Option Held) (t : Trace) : Type 0 where
   pub failed : t.failed ≡ 0
   pub writes : changes_in t.own ≡ block_writes file at (length bytes) (length bytes)
+  pub asked : AreAsked before (λ c. IsVersion c at bytes (length bytes)) (write_calls file size at (length bytes) (length bytes)) t
   pub content : Each before (λ c. IsVersion c at bytes (length bytes)) t.own (λ c. IsNow before after file x y c (version c at bytes (length bytes)))
 
 -- the first n bytes are in place, and no more, for this cause
-pub record IsStopped (is_local : Type 0) (file size at : ℕ) (bytes : List ℕ) (n : ℕ) (before after : Meaning) (x y : Option Held) (t : Trace) (why : WalkFault) : Type 0 where
+pub record IsStopped (is_local : Type 0) (file size at : ℕ) (bytes : List ℕ) (n : ℕ) (before after : Meaning) (x y : Option Held) (t : Trace)
+    (why : WalkFault) : Type 0 where
   pub writes : WritesTo is_local file at (length bytes) n t.own
+  pub asked : AreBegun before (λ c. IsVersion c at bytes n) (write_calls file size at (length bytes) n) (block_calls file size at (at + length bytes) ((at + n) / 4096)) t why
   pub content : Each before (λ c. IsVersion c at bytes n) t.own
       (λ c. IsNowOr (IsUncounted is_local file (IsTreeTo is_local file size (max size (at + length bytes))) (FileWrite file (at + n) (next_border at (length bytes) n - n)) t why) before after file x y c
       (version c at bytes n) (version c at bytes (next_border at (length bytes) n)))
   pub blame : IsFileBlame is_local x file (IsForFileWrite is_local file size at (length bytes)) before (λ c. IsVersion c at bytes n) (λ c. version c at bytes n) t why
 
 -- a write that ended early: some of the bytes are in place, up to the end of a block
-pub record IsShortWrite (is_local : Type 0) (file size at : ℕ) (bytes : List ℕ) (n : ℕ) (before after : Meaning) (x y : Option Held) (t : Trace) (why : RwFault) : Type 0 where
+pub record IsShortWrite (is_local : Type 0) (file size at : ℕ) (bytes : List ℕ) (n : ℕ) (before after : Meaning) (x y : Option Held) (t : Trace)
+    (why : RwFault) : Type 0 where
   pub some : 0 < n
   pub few : n < length bytes
   pub border : (at + n) % 4096 ≡ 0
@@ -123,7 +132,7 @@ pub record IsRoomless (before after : Meaning) (t : Trace) : Type 0 where
 
 -- what came of a write
 abbrev pub WrittenSays : Type 0 → ℕ → ℕ → ℕ → List ℕ → Meaning → Meaning → Option Held → Option Held → ℕ → Option RwFault → Trace → Type 0
-WrittenSays is_local file size at bytes before after x y count None t = (count ≡ length bytes) × IsWhole file at bytes before after x y t
+WrittenSays is_local file size at bytes before after x y count None t = (count ≡ length bytes) × IsWhole file size at bytes before after x y t
 WrittenSays is_local file size at bytes before after x y count (Some why) t = IsShortWrite is_local file size at bytes count before after x y t why
 
 abbrev pub WriteOutcome : Type 0 → ℕ → ℕ → ℕ → List ℕ → Meaning → Meaning → Option Held → Option Held → Result Written RwFault → Trace → Type 0
@@ -143,11 +152,14 @@ size_after size at (Err e) = size
 pub record IsResized (file size to : ℕ) (before after : Meaning) (x y : Option Held) (t : Trace) : Type 0 where
   pub failed : t.failed ≡ 0
   pub calls : CutsOnce file size to t.own
+  pub asked : AreAsked before Only (cut_calls file size to) t
   pub content : Each before Only t.own (λ c. IsNow before after file x y c (resized c to))
 
--- nothing changed, for this cause
-pub record IsUncut (is_local : Type 0) (file size to : ℕ) (before after : Meaning) (x y : Option Held) (t : Trace) (why : WalkFault) : Type 0 where
+-- nothing changed, for this cause, and of these calls on the file's bytes the first were made
+pub record IsUncut (is_local : Type 0) (file size to : ℕ) (order : List Call) (before after : Meaning) (x y : Option Held) (t : Trace)
+    (why : WalkFault) : Type 0 where
   pub calls : CutsNone is_local file to t.own
+  pub asked : AreBegun before Only [] order t why
   pub content : Each before Only t.own (λ c. IsNowOr (IsUncounted is_local file (IsTreeTo is_local file size to) (Resize file to) t why) before after file x y c c (resized c to))
   pub blame : IsFileBlame is_local x file (IsForCut is_local file size to) before Only (λ c. c) t why
 
@@ -155,9 +167,9 @@ pub record IsUncut (is_local : Type 0) (file size to : ℕ) (before after : Mean
 abbrev pub CutOutcome : Type 0 → ℕ → ℕ → ℕ → Meaning → Meaning → Option Held → Option Held → Result (Unit {0}) RwFault → Trace → Type 0
 CutOutcome is_local file size to before after x y (Ok _) t = IsResized file size to before after x y t
 CutOutcome is_local file size to before after x y (Err e) t =
-    FaultSays (IsUncut is_local file size to before after x y t) (λ end. (end ≡ to) × IsTooLarge to end before after x y t) (IsRoomless before after t) e
+    FaultSays (IsUncut is_local file size to (cut_calls file size to) before after x y t) (λ end. (end ≡ to) × IsTooLarge to end before after x y t) (IsRoomless before after t) e
 
 -- what came of writing out the tree
 abbrev pub SyncOutcome : Type 0 → ℕ → ℕ → (Call → Type 0) → Meaning → Meaning → Option Held → Option Held → Result (Unit {0}) RwFault → Trace → Type 0
 SyncOutcome is_local file size IsFor before after x y (Ok _) t = (t.failed ≡ 0) × Each before Only t.own (λ c. IsNow before after file x y c c)
-SyncOutcome is_local file size IsFor before after x y (Err e) t = FaultSays (IsKept is_local file IsFor before after x y t) (λ end. ⊥) ⊥ e
+SyncOutcome is_local file size IsFor before after x y (Err e) t = FaultSays (IsKept is_local file IsFor [] before after x y t) (λ end. ⊥) ⊥ e
