@@ -1,18 +1,20 @@
-"""What the guest answers to messages of FUSE over read-only files, by the rules of docs/FORMATS.md, and sessions of such messages.
+"""What the guest answers to messages of FUSE over read-only and writable files, by the rules of docs/FORMATS.md, and sessions of such
+messages.
 
 The layouts of messages and replies are those of interop/lib/fuse.py, the trees those of interop/lib/devices.py.
 """
 import hashlib
 import struct
 
-from lib.devices import PAGE, Device, told
+from lib.devices import DONE, PAGE, Device, told
 from lib.fuse import DT_DIR, DT_REG, ERRNOS, HEAD, MOST, OPERATIONS, SILENT, asked, attr, entry, get, listed, put, replied, request
 from models import descriptor, reply, request as measured_read, tape
 
 WORDS = {it[0]: word for word, it in OPERATIONS.items()}
 LAST = 2**64 - 1
 HANDLES = 4096
-DIRECTORY, READ_ONLY = 0o40755, 0o100444
+DIRECTORY, READ_ONLY, WRITABLE = 0o40755, 0o100444, 0o100644
+LARGEST = 2**32
 
 
 class Refused(Exception):
@@ -22,11 +24,14 @@ class Refused(Exception):
 class File:
     """A read-only file of a plan: its name, its number at the host, its content and its salt."""
 
+    mode = READ_ONLY
+
     def __init__(self, name, number, content, salt=b""):
         self.name, self.number, self.content = name, number, content
         self.device = Device(content.ljust(-(-len(content) // PAGE) * PAGE, b"\0"), salt) if content else None
         self.descriptor = descriptor(len(content), self.device.root if content else bytes(32), salt)
         self.line = f"file {name} {number} {hashlib.sha256(self.descriptor).hexdigest()}\n"
+        self.boot = told(self.descriptor)
 
     def pages(self, at, size):
         """Level, index and bytes of each answer that a read asks for; the last block is cut at the file's end."""
@@ -34,6 +39,30 @@ class File:
         for block in range(at // PAGE, -(-end // PAGE)) if at < end else ():
             for level, index, page in self.device.walk(block):
                 yield level, index, page if level else page[:len(self.content) - PAGE * index]
+
+
+class Written:
+    """A writable file of a plan: its name, its number at the host, and its bytes, which an honest host holds too. What is behind its end
+    in the last block is zeros."""
+
+    mode, boot = WRITABLE, DONE
+
+    def __init__(self, name, number):
+        self.name, self.number, self.content = name, number, bytearray()
+        self.line = f"write {name} {number}\n"
+
+    def block(self, index):
+        """The bytes that the file has in a block."""
+        return bytes(self.content[PAGE * index:PAGE * (index + 1)])
+
+    def put(self, at, data):
+        """Bytes in their place, and zeros between the end and them."""
+        self.content.extend(bytes(max(at + len(data) - len(self.content), 0)))
+        self.content[at:at + len(data)] = data
+
+    def cut(self, size):
+        del self.content[size:]
+        self.content.extend(bytes(size - len(self.content)))
 
 
 class Server:
@@ -44,12 +73,13 @@ class Server:
         self.names = {file.name.encode(): node for node, file in self.files.items()}
         self.lookups = dict.fromkeys((1, *self.files), 0)
         self.handles, self.given, self.ready, self.faults = {}, 0, False, 0
-        self.records, self.words = [], None
+        self.records, self.words, self.short = [], None, None
 
     def answer(self, message, bends=None):
         """The reply to a message, without a byte where there is none. `records` are then the records of the calls that were made, with
-        those of `bends` in place of the honest ones of their numbers, and `words` the words of a log line, or None."""
-        self.records, self.words, self.bends = [], None, bends or {}
+        those of `bends` in place of the honest ones of their numbers, `words` the words of a log line, or None, and `short` the count of
+        a write that ended early, or None."""
+        self.records, self.words, self.short, self.bends = [], None, None, bends or {}
         size, opcode, unique, node = (get("fuse_in_header", field, message) for field in ("len", "opcode", "unique", "nodeid"))
         word = WORDS.get(opcode)
         try:
@@ -98,7 +128,7 @@ class Server:
         self.held(node, fh)
 
     def attr(self, node):
-        return (node, len(self.files[node].content), READ_ONLY) if node != 1 else (node, 0, DIRECTORY)
+        return (node, len(self.files[node].content), self.files[node].mode) if node != 1 else (node, 0, DIRECTORY)
 
     def init(self, node, major, minor, readahead, flags):
         if self.ready or (major, minor) < (7, 31):
@@ -135,12 +165,50 @@ class Server:
     def setattr(self, node, valid, size):
         self.live(node)
         if valid & 8:
-            raise Refused("EISDIR" if node == 1 else "EACCES")
+            self.resize(node, size)
         return self.getattr(node)
+
+    def resize(self, node, size):
+        """Another size: the block in which a shorter file ends is read, and then the size is set."""
+        if node == 1:
+            raise Refused("EISDIR")
+        file = self.files[node]
+        if file.mode == READ_ONLY:
+            raise Refused("EACCES")
+        if size > LARGEST:
+            raise Refused("EFBIG")
+        if size == len(file.content):
+            return
+        if size < len(file.content) and size % PAGE:
+            self.load(file, size // PAGE)
+        self.done()
+        file.cut(size)
+
+    def load(self, file, index):
+        """Reads the bytes that a writable file has in a block, and judges the answer."""
+        page = file.block(index)
+        record = self.call(told(page))
+        self.judge(hash_of, 0, index, record, page, page.ljust(PAGE, b"\0"))
+
+    def call(self, honest):
+        """The record of the next call."""
+        record = self.bends.get(len(self.records), honest)
+        self.records.append(record)
+        return record
+
+    def done(self):
+        """A call that answers that it was done."""
+        if self.call(DONE) != DONE:
+            self.fails()
+            raise Refused("EIO")
+
+    def fails(self):
+        self.faults += 1
+        self.words = f"failed {self.faults}"
 
     def open(self, node, flags):
         self.file(node)
-        if flags % 4 != 0:
+        if flags % 4 != 0 and self.files[node].mode == READ_ONLY:
             raise Refused("EACCES")
         return self.opened(node)
 
@@ -170,21 +238,24 @@ class Server:
     def read(self, node, fh, offset, size):
         self.handle(node, fh)
         file = self.files[node]
-        for number, (level, index, page) in enumerate(file.pages(offset, size)):
-            record = self.bends.get(number, told(page))
-            self.records.append(record)
-            self.judge(file.device, level, index, record, len(page))
-        return file.content[offset:offset + size]
+        if file.mode == WRITABLE:
+            end = min(offset + size, len(file.content))
+            for index in range(offset // PAGE, -(-end // PAGE)) if offset < end else ():
+                self.load(file, index)
+        else:
+            for level, index, page in file.pages(offset, size):
+                self.judge(file.device.hash, level, index, self.call(told(page)), page, file.device.levels[level][index])
+        return bytes(file.content[offset:offset + size])
 
-    def judge(self, device, level, index, record, wanted):
-        """A record of the tape as the answer to a call: no record, one of another kind, a short one, a wrong one."""
-        got = record[5:][:wanted]
-        wrong, right = device.hash(got.ljust(PAGE, b"\0")), device.hash(device.levels[level][index])
+    def judge(self, hash_page, level, index, record, wanted, page):
+        """A record of the tape as the answer to a call for these bytes of a page: no record, one of another kind, a short one, a wrong
+        one."""
+        got = record[5:][:len(wanted)]
+        wrong, right = hash_page(got.ljust(PAGE, b"\0")), hash_page(page)
         if record[:1] != b"\3":
-            self.faults += 1
-            self.words = f"failed {self.faults}"
-        elif len(got) < wanted:
-            self.words = f"short {wanted} {len(got)}"
+            self.fails()
+        elif len(got) < len(wanted):
+            self.words = f"short {len(wanted)} {len(got)}"
         elif wrong != right:
             self.words = f"mismatch {level} {index} {right.hex()} {wrong.hex()}"
         if self.words is not None:
@@ -192,7 +263,26 @@ class Server:
 
     def write(self, node, fh, offset, data):
         self.handle(node, fh)
-        raise Refused("EACCES")
+        file, data = self.files[node], bytes.fromhex(data)
+        if file.mode == READ_ONLY:
+            raise Refused("EACCES")
+        end = offset + len(data)
+        if data and end > LARGEST:
+            raise Refused("EFBIG")
+        for index in range(offset // PAGE, -(-end // PAGE)) if data else ():
+            start = PAGE * index
+            first, last = max(offset, start), min(end, start + PAGE)
+            try:
+                if start < len(file.content) and (first > start or last < min(start + PAGE, len(file.content))):
+                    self.load(file, index)
+                self.done()
+            except Refused:
+                if start <= offset:
+                    raise
+                self.short = start - offset
+                return put("fuse_write_out", size=self.short)
+            file.put(first, data[first - offset:last - offset])
+        return put("fuse_write_out", size=len(data))
 
     def flush(self, node, fh):
         self.handle(node, fh)
@@ -216,6 +306,11 @@ class Server:
 
     def destroy(self, node):
         self.ready, self.handles, self.lookups = False, {}, dict.fromkeys(self.lookups, 0)
+
+
+def hash_of(page):
+    """The hash of a page of a writable file's tree, which has no salt."""
+    return hashlib.sha256(page).digest()
 
 
 def body_of(word, name=None, data=b"", pairs=(), **fields):
@@ -257,7 +352,7 @@ class Session:
         blobs = "".join(f"blob {7 + n} {len(it.levels[0])} {it.salt.hex() or '-'} {it.root.hex()}\n" for n, it in enumerate(devices))
         self.plan = f"plan 1\n{blobs}{''.join(file.line for file in files)}".encode()
         self.stream, self.replies, self.log, self.number = b"", b"", "", 0
-        self.records = [told(file.descriptor) for file in files]
+        self.records = [file.boot for file in files]
         self.borders = []
 
     def message(self, message, bends=None):
@@ -267,7 +362,8 @@ class Session:
         answer = self.server.answer(message, bends)
         self.replies += framed(0, answer) if answer else b""
         self.records += self.server.records
-        self.log += f"eio {at} {self.server.words}\n" if self.server.words else ""
+        head = f"eio {at}" if self.server.short is None else f"short {at} {self.server.short}"
+        self.log += f"{head} {self.server.words}\n" if self.server.words else ""
         self.borders.append((len(self.stream), len(self.replies), len(self.log)))
         return answer
 

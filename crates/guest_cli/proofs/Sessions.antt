@@ -41,7 +41,7 @@ is_early told n is lt = early_by told.heard (few_heard told n is lt)
 
 -- a frame whose line was written, and its reply, or a part of it
 pub turn_written : {E : Type 0} (g : Setting) (r s : State) (a b : Told) (at : ℕ) (out_a out_b log_a log_b : Option (List ℕ)) (channel : ℕ) (payload : List ℕ) (sent : Sent) (cause : Option Cause) (result : Result (Unit {0}) E)
-    → Stepped g r s a b (framed channel payload) sent cause → Appends log_a log_b (log_line at cause)
+    → Stepped g r s a b (framed channel payload) sent cause → Appends log_a log_b (log_line at sent cause)
     → OnOk result (Appends out_a out_b (reply_frame sent)) → OnErr result (SomePrefix out_a out_b (reply_frame sent)) → TurnOutcome g r s a b at out_a out_b log_a log_b channel payload result
 turn_written g r s a b at out_a out_b log_a log_b channel payload sent cause (Ok u) step logged ok err = record { sent = sent; cause = cause; step = step; written = (ok, logged) }
 turn_written g r s a b at out_a out_b log_a log_b channel payload sent cause (Err e) step logged ok err = record { sent = sent; cause = cause; step = step; written = inr (err, logged) }
@@ -60,7 +60,7 @@ module _ (g : Setting) (r s : State) (a b : Told) (out_a out_b log_a log_b : Opt
   -- one frame more, its line and reply written
   pub held_on : (t : State) (c : Told) (out_c log_c : Option (List ℕ)) (n : Held) (channel : ℕ) (payload rest : List ℕ) → Fronts m.held channel payload rest → n ≡ held_at rest (m.at + length (frame channel payload))
       → IsEarly b.heard
-      → (w : Taken g s t b c (framed channel payload) (λ sent cause. Appends out_b out_c (reply_frame sent) × Appends log_b log_c (log_line m.at cause)))
+      → (w : Taken g s t b c (framed channel payload) (λ sent cause. Appends out_b out_c (reply_frame sent) × Appends log_b log_c (log_line m.at sent cause)))
       → Answered g r t a c out_a out_c log_a log_c o n (turns ++ turn_of g s t b c (framed channel payload) w.sent w.cause w.step ∷ [])
   held_on t c out_c log_c n channel payload rest f is few w =
       let turn : Turn = turn_of g s t b c (framed channel payload) w.sent w.cause w.step in
@@ -73,13 +73,13 @@ module _ (g : Setting) (r s : State) (a b : Told) (out_a out_b log_a log_b : Opt
   -- the same, with the turns that it makes
   pub held_next : (t : State) (c : Told) (out_c log_c : Option (List ℕ)) (n : Held) (channel : ℕ) (payload rest : List ℕ) → Fronts m.held channel payload rest → n ≡ held_at rest (m.at + length (frame channel payload))
       → IsEarly b.heard
-      → Taken g s t b c (framed channel payload) (λ sent cause. Appends out_b out_c (reply_frame sent) × Appends log_b log_c (log_line m.at cause))
+      → Taken g s t b c (framed channel payload) (λ sent cause. Appends out_b out_c (reply_frame sent) × Appends log_b log_c (log_line m.at sent cause))
       → (all : List Turn) × Answered g r t a c out_a out_c log_a log_c o n all
   held_next t c out_c log_c n channel payload rest f is few w = (_, held_on t c out_c log_c n channel payload rest f is few w)
 
   -- one frame more, its line or reply written in part
   pub held_cut : (t : State) (c : Told) (out_c log_c : Option (List ℕ)) (channel : ℕ) (payload : List ℕ) → IsEarly b.heard
-      → (w : Taken g s t b c (framed channel payload) (λ sent cause. ((out_c ≡ out_b) × SomePrefix log_b log_c (log_line m.at cause)) ⊎ (SomePrefix out_b out_c (reply_frame sent) × Appends log_b log_c (log_line m.at cause))))
+      → (w : Taken g s t b c (framed channel payload) (λ sent cause. ((out_c ≡ out_b) × SomePrefix log_b log_c (log_line m.at sent cause)) ⊎ (SomePrefix out_b out_c (reply_frame sent) × Appends log_b log_c (log_line m.at sent cause))))
       → RanCut (Runs g r t a c) o.at out_a out_c log_a log_c turns (turn_of g s t b c (framed channel payload) w.sent w.cause w.step)
   held_cut t c out_c log_c channel payload few w = record {
     runs = runs_both g r s t a b c turns _ so.ran.runs (runs_one g s t b c (framed channel payload) w.sent w.cause w.step few);
@@ -93,7 +93,7 @@ module _ (g : Setting) (r s : State) (a b : Told) (out_a out_b log_a log_b : Opt
   -- so the session stops there
   pub held_stop : (t : State) (c : Told) (out_c log_c : Option (List ℕ)) (channel : ℕ) (payload rest : List ℕ) → Fronts m.held channel payload rest
       → IsEarly b.heard
-      → Taken g s t b c (framed channel payload) (λ sent cause. ((out_c ≡ out_b) × SomePrefix log_b log_c (log_line m.at cause)) ⊎ (SomePrefix out_b out_c (reply_frame sent) × Appends log_b log_c (log_line m.at cause)))
+      → Taken g s t b c (framed channel payload) (λ sent cause. ((out_c ≡ out_b) × SomePrefix log_b log_c (log_line m.at sent cause)) ⊎ (SomePrefix out_b out_c (reply_frame sent) × Appends log_b log_c (log_line m.at sent cause)))
       → HeldOutcome g r t a c out_a out_c log_a log_c o m (Err stop.Write)
   held_stop t c out_c log_c channel payload rest f few w =
       (turns, turn_of g s t b c (framed channel payload) w.sent w.cause w.step, so.went, record { rest = rest; fronts = f }, held_cut t c out_c log_c channel payload few w)

@@ -5,7 +5,7 @@ use Rattle.std.proofs.lemmas.Option.{slice_get_within}
 use Rattle.mg_base.specs.declared.errno.Errno.{Errno}
 use Rattle.mg_base.specs.declared.errno.Errno.TheVariants.{Enomem}
 use Rattle.host_traits.specs.Told.{Told, failures_of, heard_of}
-use Rattle.host_traits.specs.Did.{Did, Trace, reads, trace_of}
+use Rattle.host_traits.specs.Did.{Did, DidBy, Trace, reads, trace_of}
 use Rattle.host_traits.proofs.Doing.{did_none}
 use Rattle.session_frames.specs.Replies.{Sent, sent_if, sent_code, message_sent}
 use Rattle.session_frames.proofs.Replies.{message_is}
@@ -23,8 +23,9 @@ use Rattle.fuse_codec.specs.Reading.{decoded}
 use Rattle.fuse_codec.specs.Reply.{Answer, bytes_out, refused}
 use Rattle.fuse_codec.specs.Sent.{unique_of}
 use Rattle.fuse_server.specs.State.{State as Fuse}
-use Rattle.fuse_server.specs.Aims.{Aim, says, makes, reads as reads_file, aim_of, number_of}
+use Rattle.fuse_server.specs.Aims.{Aim, says, makes, reads as reads_file, loads, writes, cuts, syncs, aim_of, number_of}
 use Rattle.fuse_server.specs.Effects.{Next}
+use Rattle.fuse_server.specs.FileRows.{Around, around}
 use Rattle.fuse_server.specs.Rows.{FuseRow, ReadRow, read_bytes, read_blamed, read_no_room, IsForFuse, most_for_fuse, FuseIsRight, answer_by}
 use Rattle.instance_image.specs.declared.values.Part.{Part}
 use Rattle.guest_rules.specs.Machine.{Setting, State, nowhere, item_read, size_of, message_of, request_of}
@@ -115,12 +116,16 @@ of_none (Err e) answer = tt
 of_none (Ok (says x)) answer = tt
 of_none (Ok (makes x)) answer = tt
 of_none (Ok (reads_file f offset size)) answer = tt
+of_none (Ok (loads number f offset size)) answer = tt
+of_none (Ok (writes number f offset new)) answer = tt
+of_none (Ok (cuts number f node size)) answer = tt
+of_none (Ok (syncs number f)) answer = tt
 
-module _ (s : Fuse) (a b : Told) (payload : List ℕ) (reply : Option FuseReply) (bytes : List ℕ) (c : Option Cause) (number : IfSome reply (λ r. unique_of r ≡ number_of (decoded payload)))
-    (did : Did (IsForFuse (aim_of s (decoded payload))) (most_for_fuse (aim_of s (decoded payload))) a b (λ t. FuseRow (aim_of s (decoded payload)) t (answer_by reply bytes) c)) where
-  pub message_step : (g : Setting) (t : Fuse) (entropy : List ℕ) (parts : List Part) → Next s (decoded payload) (answer_by reply bytes) t
-      → Stepped g (record { fuse = s; entropy = entropy; parts = parts }) (record { fuse = t; entropy = entropy; parts = parts }) a b (framed 0 payload) (sent_if (message_frame reply) bytes) c
-  message_step g t entropy parts next = stepped g _ _ a b (framed 0 payload) _ _ _ _ _ did (λ call given for. for) (omega arith)
+module _ (s new : Fuse) (a b : Told) (payload : List ℕ) (reply : Option FuseReply) (bytes : List ℕ) (c : Option Cause) (number : IfSome reply (λ r. unique_of r ≡ number_of (decoded payload)))
+    (did : DidBy (IsForFuse (aim_of s (decoded payload))) (most_for_fuse (aim_of s (decoded payload))) a b (λ t. FuseRow (aim_of s (decoded payload)) (around s.writables new.writables a b t) (answer_by reply bytes) c)) where
+  pub message_step : (g : Setting) (entropy : List ℕ) (parts : List Part) → Next s (decoded payload) (answer_by reply bytes) new
+      → Stepped g (record { fuse = s; entropy = entropy; parts = parts }) (record { fuse = new; entropy = entropy; parts = parts }) a b (framed 0 payload) (sent_if (message_frame reply) bytes) c
+  message_step g entropy parts next = stepped g _ _ a b (framed 0 payload) _ _ _ _ _ did (λ call given for. for) (omega arith)
       (λ run own failed row. (refl, refl, record { answer = answer_by reply bytes; sent_is = message_sent_is (decoded payload) reply bytes number; row = row; slice = of_none (aim_of s (decoded payload)) (answer_by reply bytes); next = next }))
 
   read_defined : (f : MeasuredFile) (offset size : ℕ) (t : Trace) (content : List ℕ) (answer : Answer) (why : Option Cause) (unique : ℕ) → ReadRow f offset size t answer why
@@ -132,7 +137,7 @@ module _ (s : Fuse) (a b : Told) (payload : List ℕ) (reply : Option FuseReply)
   read_defined f offset size t content answer why unique (read_no_room scarce order right) (inl e) = absurd cc
   read_defined f offset size t content answer why unique (read_no_room scarce order right) (inr e) = short_of_memory scarce.scarce
 
-  by_aim : (aim : Result Aim Errno) → FuseRow aim (trace_of (heard_of did.own) (failures_of did.own) a b) (answer_by reply bytes) c → FuseIsRight aim a b (answer_by reply bytes)
+  by_aim : (aim : Result Aim Errno) → FuseRow aim (around s.writables new.writables a b (trace_of (heard_of did.own) (failures_of did.own) a b)) (answer_by reply bytes) c → FuseIsRight aim a b (answer_by reply bytes)
       → MessageIsServed aim (number_of (decoded payload)) a b (message_sent (number_of (decoded payload)) (answer_by reply bytes)) c
   by_aim (Err e) row right = tt
   by_aim (Ok (says x)) row right = tt
@@ -140,8 +145,12 @@ module _ (s : Fuse) (a b : Told) (payload : List ℕ) (reply : Option FuseReply)
   by_aim (Ok (reads_file f offset size)) row right = record {
     right = λ h content calm held holds tree limit.
         let w = right.right h content calm held holds tree limit in
-        (w.0, read_defined f offset size (trace_of (heard_of did.own) (failures_of did.own) a b) content (answer_by reply bytes) c (number_of (decoded payload)) row w.1);
+        (w.0, read_defined f offset size (trace_of (heard_of did.own) (failures_of did.own) a b) content (answer_by reply bytes) c (number_of (decoded payload)) row.1 w.1);
   }
+  by_aim (Ok (loads n f offset size)) row right = tt
+  by_aim (Ok (writes n f offset x)) row right = tt
+  by_aim (Ok (cuts n f node size)) row right = tt
+  by_aim (Ok (syncs n f)) row right = tt
 
   pub message_served : FuseIsRight (aim_of s (decoded payload)) a b (answer_by reply bytes)
       → MessageIsServed (aim_of s (decoded payload)) (number_of (decoded payload)) a b (sent_if (message_frame reply) bytes) c

@@ -4,13 +4,13 @@ use Rattle.guest_plan.specs.declared.plan.PlanLine.{PlanLine}
 use Rattle.guest_plan.specs.declared.plan.PlanLine.TheVariants as line
 use Rattle.guest_plan.specs.Plans.{Known}
 
--- the instance image, a measured device, an APK device, or a read-only file
+-- any but a directory that is written
 abbrev pub is_built : PlanLine → Bool
 is_built (line.Instance disk part) = true
 is_built (line.Blob file m) = true
 is_built (line.Apk disk apk idsig how) = true
 is_built (line.File name file digest) = true
-is_built (line.Write name file) = false
+is_built (line.Write name file) = true
 is_built (line.WriteDir name file) = false
 
 -- the number of the first of these lines that isn't

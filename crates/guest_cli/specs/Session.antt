@@ -39,8 +39,8 @@ pub record RanCut (R : List Turn → Type 0) (at : ℕ) (out_old out_new log_old
   pub written : Appends out_old out_mid (out_bytes turns)
   pub log_mid : Option (List ℕ)
   pub logged : Appends log_old log_mid (log_bytes at turns)
-  pub part : ((out_new ≡ out_mid) × SomePrefix log_mid log_new (log_line (at + turns_size turns) last.cause))
-      ⊎ (SomePrefix out_mid out_new (reply_frame last.sent) × Appends log_mid log_new (log_line (at + turns_size turns) last.cause))
+  pub part : ((out_new ≡ out_mid) × SomePrefix log_mid log_new (log_line (at + turns_size turns) last.sent last.cause))
+      ⊎ (SomePrefix out_mid out_new (reply_frame last.sent) × Appends log_mid log_new (log_line (at + turns_size turns) last.sent last.cause))
 
 -- what was done with the frames at the front of what is held
 pub record Answered (g : Setting) (old_state new_state : State) (old new : Told) (out_old out_new log_old log_new : Option (List ℕ)) (held_old held_new : Held) (turns : List Turn) : Type 0 where

@@ -21,6 +21,6 @@ pub record Taken (g : Setting) (old_state new_state : State) (old new : Told) (f
   pub written : Written sent cause
 
 abbrev pub TurnOutcome : {E : Type 0} → Setting → State → State → Told → Told → ℕ → Option (List ℕ) → Option (List ℕ) → Option (List ℕ) → Option (List ℕ) → ℕ → List ℕ → Result (Unit {0}) E → Type 0
-TurnOutcome g r s a b at out_a out_b log_a log_b channel payload (Ok _) = Taken g r s a b (framed channel payload) (λ sent cause. Appends out_a out_b (reply_frame sent) × Appends log_a log_b (log_line at cause))
+TurnOutcome g r s a b at out_a out_b log_a log_b channel payload (Ok _) = Taken g r s a b (framed channel payload) (λ sent cause. Appends out_a out_b (reply_frame sent) × Appends log_a log_b (log_line at sent cause))
 TurnOutcome g r s a b at out_a out_b log_a log_b channel payload (Err _) = Taken g r s a b (framed channel payload) (λ sent cause.
-    ((out_b ≡ out_a) × SomePrefix log_a log_b (log_line at cause)) ⊎ (SomePrefix out_a out_b (reply_frame sent) × Appends log_a log_b (log_line at cause)))
+    ((out_b ≡ out_a) × SomePrefix log_a log_b (log_line at sent cause)) ⊎ (SomePrefix out_a out_b (reply_frame sent) × Appends log_a log_b (log_line at sent cause)))

@@ -34,8 +34,9 @@ fn is_built(line: &PlanLine) -> bool
         PlanLine::Instance { .. }
         | PlanLine::Blob { .. }
         | PlanLine::Apk { .. }
-        | PlanLine::File { .. } => true,
-        PlanLine::Write { .. } | PlanLine::WriteDir { .. } => false,
+        | PlanLine::File { .. }
+        | PlanLine::Write { .. } => true,
+        PlanLine::WriteDir { .. } => false,
     }
 }
 
@@ -55,7 +56,7 @@ fn unbuilt_in(lines: &[PlanLine], numbers: &[u64]) -> Option<u64>
     Some(*number)
 }
 
-/// The first line of a plan that asks for what isn't served yet: that of a writable file or directory.
+/// The first line of a plan that asks for what isn't served yet: that of a directory that is written.
 pub fn first_unbuilt(plan: &Plan) -> Option<u64>
     ensures { result ≡ first_unbuilt (known plan.now) }
 {
@@ -118,7 +119,6 @@ pub fn boot<H: Host>(
     host: &mut H,
 ) -> Result<Machine, BootFault>
     requires plan { (text : List ℕ) × IsPlan text (known plan.now) }
-    requires built { first_unbuilt (known plan.now) ≡ None }
     ensures booted { DidWriting (IsForLines plan.now.lines.items) (most_of plan.now.lines.items)
         (H.told host.old) (H.told host.new) (BootedOutcome (known plan.now) entropy result) }
     ensures splitter { IfOk result (λ m. m.splitter ≡ record { held = []; at = 0 }) }

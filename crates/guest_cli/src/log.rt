@@ -1,16 +1,19 @@
 // The lines of the log.
-ghost use Rattle.std.specs.Prelude.{◌≡◌, ◌≤◌, ◌++◌, length, codes, Some};
+ghost use Rattle.std.specs.Prelude.{◌≡◌, ◌≤◌, ◌++◌, ℕ, List, length, codes, Some};
 ghost use Rattle.hex.specs.Hex.{encode_lower};
-ghost use Rattle.guest_rules.specs.Run.{cause_words, log_line};
+ghost use Rattle.session_frames.specs.Replies.{sent_if};
+ghost use Rattle.guest_rules.specs.Run.{cause_words, log_head, log_line};
 
+use fuse_codec::FuseReply;
+use session_frames::ReplyFrame;
 use text_lines::Line;
 use verity_path::Cause;
 
 // Adds the words of a tag.
 fn put_tag(line: &mut Line, found: &[u8; 16])
-    requires { length line.old ≤ 24 }
+    requires { length line.old ≤ 37 }
     ensures value { line.new ≡ line.old ++ (codes " tag " ++ encode_lower found.now) }
-    ensures len { length line.new ≤ 61 }
+    ensures len { length line.new ≤ 74 }
 {
     line.put(b" tag ");
     line.hex(found);
@@ -18,9 +21,9 @@ fn put_tag(line: &mut Line, found: &[u8; 16])
 
 // Adds the words of a cause.
 fn put_cause(line: &mut Line, cause: &Cause)
-    requires { length line.old ≤ 24 }
+    requires { length line.old ≤ 37 }
     ensures value { line.new ≡ line.old ++ cause_words cause.now }
-    ensures len { length line.new ≤ 220 }
+    ensures len { length line.new ≤ 233 }
 {
     match cause {
         Cause::Mismatch(mismatch) => {
@@ -48,16 +51,37 @@ fn put_cause(line: &mut Line, cause: &Cause)
             line.put(b" changed ");
             line.number(*sector);
         }
+        Cause::Memory => line.put(b" memory"),
     }
 }
 
-/// The line of a reply 5 to the frame that begins at this offset.
-pub fn cause_line(at: u64, cause: &Cause) -> Line
-    ensures { result ≡ log_line at (Some cause.now) }
+// How the line of a reply with a cause begins.
+fn put_head(line: &mut Line, at: u64, reply: &Option<ReplyFrame>)
+    requires { length line.old ≡ 0 }
+    ensures value { (served : List ℕ) → line.new ≡ log_head at (sent_if reply.now served) }
+    ensures len { length line.new ≤ 37 }
+{
+    match reply {
+        Some(ReplyFrame::Fuse(FuseReply::Written { unique: _, count })) => {
+            line.put(b"short ");
+            line.number(at);
+            line.put(b" ");
+            line.number(*count as u64);
+        }
+        _ => {
+            line.put(b"eio ");
+            line.number(at);
+        }
+    }
+}
+
+/// The line of a reply with a cause to the frame that begins at this offset: of a write that ended early, or of a failure.
+pub fn cause_line(at: u64, reply: &Option<ReplyFrame>, cause: &Cause) -> Line
+    ensures { (served : List ℕ) → result ≡ log_line at (sent_if reply.now served)
+        (Some cause.now) }
 {
     let mut line = Line::new();
-    line.put(b"eio ");
-    line.number(at);
+    put_head(&mut line, at, reply);
     put_cause(&mut line, cause);
     line.put(b"\n");
     line

@@ -41,16 +41,22 @@ enum Stop {
     TooMuch,
 }
 
-// Writes the line of a cause, where there is one.
-fn write_line<L: Sink>(at: u64, cause: &Option<Cause>, log: &mut L) -> Result<(), Failed>
-    ensures ok { OnOk result (Appends (L.holds log.old) (L.holds log.new) (log_line at cause.now)) }
-    ensures err { OnErr result
-        (SomePrefix (L.holds log.old) (L.holds log.new) (log_line at cause.now)) }
+// Writes the line of a cause, where there is one, of a reply.
+fn write_line<L: Sink>(
+    at: u64,
+    reply: &Option<ReplyFrame>,
+    cause: &Option<Cause>,
+    log: &mut L,
+) -> Result<(), Failed>
+    ensures ok { (served : List ℕ) → OnOk result (Appends (L.holds log.old) (L.holds log.new)
+        (log_line at (sent_if reply.now served) cause.now)) }
+    ensures err { (served : List ℕ) → OnErr result (SomePrefix (L.holds log.old) (L.holds log.new)
+        (log_line at (sent_if reply.now served) cause.now)) }
     ensures cause { HasCause (L.faults log.old) (L.faults log.new) result }
 {
     match cause {
         Some(cause) => {
-            let line = cause_line(at, cause);
+            let line = cause_line(at, reply, cause);
             log.write_all(line.bytes())
         }
         None => Ok(()),
@@ -99,7 +105,7 @@ fn turn<H: Host, K: Sink, L: Sink>(
         (Rose (K.faults out.old) (K.faults out.new) ⊎ Rose (L.faults log.old) (L.faults log.new)) }
 {
     let answer = answer_frame(alloc, engine, host, channel, payload);
-    match write_line(at, &answer.cause, log) {
+    match write_line(at, &answer.reply, &answer.cause, log) {
         Ok(()) => {}
         Err(failed) => return Err(failed),
     }

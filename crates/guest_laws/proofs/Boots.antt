@@ -16,7 +16,7 @@ use Rattle.guest_boot.specs.declared.faults.BootCause.TheVariants.{Gpt, NoPart, 
 use Rattle.guest_boot.specs.declared.faults.BootFault.{BootFault}
 use Rattle.guest_boot.specs.Finding.{ReadsTable}
 use Rattle.guest_boot.specs.Recording.{Writing}
-use Rattle.guest_boot.specs.Booting.{Booted, AreUnrecorded, Means, means_of, before_lines, instance_in, IsFault, IsForLines, IsUnrecorded, LineFails, BlobFails, later_of}
+use Rattle.guest_boot.specs.Booting.{Booted, AllOnlyRead, Means, means_of, before_lines, instance_in, IsFault, IsForLines, OnlyReads, LineFails, BlobFails, later_of}
 use Rattle.guest_boot.proofs.Instances.{stands}
 use Rattle.guest_boot.proofs.Plans.{stays}
 use Rattle.guest_plan.specs.declared.plan.How.TheVariants as measures
@@ -90,17 +90,17 @@ module _ (plan : Known) (entropy : List ℕ) (world : World) (h : Held) (fits : 
       file_passes h file digest f.known.content f.known.salt f.holds (later_of t rest) truly calm why fails
   line_passes before other after first rest mid why are cut booted fails = absurd fails
 
-  pub fault_passes : (fault : BootFault) (w : List Writing) → AreUnrecorded plan.lines → IsFault (means_of plan entropy) plan.lines plan.numbers fault w t → fault.why ≡ Memory
+  pub fault_passes : (fault : BootFault) (w : List Writing) → AllOnlyRead plan.lines → IsFault (means_of plan entropy) plan.lines plan.numbers fault w t → fault.why ≡ Memory
   fault_passes fault w unrecorded (inl f) =
       let i = f.1.instance in
       let holds = fits.instance i.at i.disk i.part f.1.bytes (stands plan.lines i f.1.is) f.1.salt_is in
       image_passes h i.disk i.part f.1.bytes holds t heard calm fault.why f.1.fails
   fault_passes fault w unrecorded (inr f) =
-      let all : AreUnrecorded (f.before ++ f.line ∷ f.after) = subst AreUnrecorded f.lines_are unrecorded in
+      let all : AllOnlyRead (f.before ++ f.line ∷ f.after) = subst AllOnlyRead f.lines_are unrecorded in
       line_passes f.before f.line f.after f.first f.rest f.mid fault.why f.lines_are f.cut (from_plain (instance_in plan.lines) (means_of plan entropy) f.before f.first f.mid (unrecorded_before f.before f.line f.after all) f.booted)
       (fails_plain f.mid f.line fault.why w (later_of t f.rest) (unrecorded_at f.before f.line f.after all) f.fails)
 
-  pub outcome_passes : (result : Result Machine BootFault) (w : List Writing) → AreUnrecorded plan.lines → BootedOutcome plan entropy result w t → IfErr result (λ fault. fault.why ≡ Memory)
+  pub outcome_passes : (result : Result Machine BootFault) (w : List Writing) → AllOnlyRead plan.lines → BootedOutcome plan entropy result w t → IfErr result (λ fault. fault.why ≡ Memory)
   outcome_passes (Ok m) w unrecorded o = tt
   outcome_passes (Err fault) w unrecorded (inl none) = none.0
   outcome_passes (Err fault) w unrecorded (inr f) = fault_passes fault w unrecorded f
@@ -110,7 +110,7 @@ pub lines_call : (lines : List PlanLine) (own : List Made) → Each (reads (IsFo
 lines_call lines own each = each_so (reads (IsForLines lines)) (reads IsBootCall) own (λ call given p. (boot_call p.0.line call p.0.for, p.1)) each
 
 -- where none of them has its measure in a record, nothing was written, also where one failed
-by_writes : (writings : List Writing) (l : PlanLine) (mid : Booted) (why : BootCause) (w : List Writing) (t : Trace) → IsUnrecorded l → LineFails mid l why w t → mid.writings ≡ writings → w ≡ writings
+by_writes : (writings : List Writing) (l : PlanLine) (mid : Booted) (why : BootCause) (w : List Writing) (t : Trace) → OnlyReads l → LineFails mid l why w t → mid.writings ≡ writings → w ≡ writings
 by_writes writings (line.Instance disk part) mid why w t none f e = absurd f
 by_writes writings (line.Blob file m) mid why w t none f e = f.0 ∙ e
 by_writes writings (line.Apk disk apk idsig (measures.Fixed m)) mid why w t none f e = f.0 ∙ e
@@ -120,14 +120,14 @@ by_writes writings (line.File name file digest) mid why w t none f e = f.0 ∙ e
 by_writes writings (line.Write name file) mid why w t none f e = absurd f
 by_writes writings (line.WriteDir name file) mid why w t none f e = absurd f
 
-pub fault_writes : (plan : Known) (entropy : List ℕ) (fault : BootFault) (w : List Writing) (t : Trace) → AreUnrecorded plan.lines → IsFault (means_of plan entropy) plan.lines plan.numbers fault w t → w ≡ []
+pub fault_writes : (plan : Known) (entropy : List ℕ) (fault : BootFault) (w : List Writing) (t : Trace) → AllOnlyRead plan.lines → IsFault (means_of plan entropy) plan.lines plan.numbers fault w t → w ≡ []
 fault_writes plan entropy fault w t unrecorded (inl f) = f.0
 fault_writes plan entropy fault w t unrecorded (inr f) =
-    let all : AreUnrecorded (f.before ++ f.line ∷ f.after) = subst AreUnrecorded f.lines_are unrecorded in
+    let all : AllOnlyRead (f.before ++ f.line ∷ f.after) = subst AllOnlyRead f.lines_are unrecorded in
     by_writes [] f.line f.mid fault.why w (later_of t f.rest) (unrecorded_at f.before f.line f.after all) f.fails
     (stays (before_lines f.booted.tables f.booted.image plan.secret entropy) f.before f.booted.rest f.mid (unrecorded_before f.before f.line f.after all) f.booted.others).writings
 
-writes_none : (plan : Known) (entropy : List ℕ) (result : Result Machine BootFault) (w : List Writing) (t : Trace) → AreUnrecorded plan.lines → BootedOutcome plan entropy result w t → w ≡ []
+writes_none : (plan : Known) (entropy : List ℕ) (result : Result Machine BootFault) (w : List Writing) (t : Trace) → AllOnlyRead plan.lines → BootedOutcome plan entropy result w t → w ≡ []
 writes_none plan entropy (Ok m) w t unrecorded o = sym o.1.written ∙ none_written plan entropy t.own o.1.opened unrecorded o.1.opens
 writes_none plan entropy (Err fault) w t unrecorded (inl (is, none, inl quiet)) = quiet.1
 writes_none plan entropy (Err fault) w t unrecorded (inl (is, none, inr all)) = sym all.2 ∙ none_written plan entropy t.own all.0 unrecorded all.1

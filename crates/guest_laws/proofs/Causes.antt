@@ -15,10 +15,12 @@ use Rattle.verity_path.specs.declared.device.Cause.{Cause}
 use Rattle.verity_path.specs.declared.device.Device.{Device}
 use Rattle.ro_file.specs.Files.{MeasuredFile}
 use Rattle.fuse_codec.specs.Reply.{Answer}
-use Rattle.fuse_server.specs.State.{Files, file_at}
-use Rattle.fuse_server.specs.Aims.{Aim, says, makes, reads, aim_of, number_of}
+use Rattle.fuse_server.specs.State.{State as Fuse, Files, file_at}
+use Rattle.fuse_server.specs.Aims.{Aim, says, makes, reads, loads, writes, cuts, syncs, aim_of, number_of}
+use Rattle.fuse_server.specs.FileRows.{Around}
 use Rattle.fuse_server.specs.Rows.{FuseRow}
-use Rattle.fuse_server.proofs.Keeping.{aim_file}
+use Rattle.fuse_server.proofs.Keeping.{OfFiles, all_of, aim_file}
+use Rattle.guest_laws.proofs.Staying.{NoWritables, none_at, still_none, none_first}
 use Rattle.guest_plan.specs.Plans.{Known}
 use Rattle.guest_plan.specs.declared.plan.PlanLine.{PlanLine}
 use Rattle.guest_plan.specs.declared.plan.PlanLine.TheVariants as line
@@ -33,7 +35,7 @@ use Rattle.instance_image.specs.Sealings.{Sealing}
 use Rattle.guest_rules.specs.Machine.{Instance, Setting, State, World, Moment, Turn, ItemRead, Request, message_of, read_of, get_of, put_of, request_of}
 use Rattle.guest_rules.specs.RecordRow.{GetRow, no_image, got, PutRow, no_image as put_no_image, refused, no_entropy, put}
 use Rattle.guest_rules.specs.ItemRow.{ItemRow, no_item, too_large, served, blamed, no_memory}
-use Rattle.guest_rules.specs.Step.{Step, Row, trace}
+use Rattle.guest_rules.specs.Step.{Step, Row, trace, heard_in}
 use Rattle.guest_rules.specs.Faithful.{IsDefined, over_limit, whole, no_room, IsReadDefined, slice, no_memory as short_of_memory}
 use Rattle.guest_rules.proofs.Standing.{files_kept}
 use Rattle.guest_cli.specs.Booted.{setting_of}
@@ -115,13 +117,17 @@ row_none items world r t sent cause f (served it bytes at fits none all right sh
 row_none items world r t sent cause f (blamed it c at fits blame order right) = f it at
 row_none items world r t sent cause f (no_memory it at fits scarce order right) = refl
 
-aim_none : (aim : Result Aim Errno) (t : Trace) (answer : Answer) (cause : Option Cause) → ((f : MeasuredFile) (offset size : ℕ) → aim ≡ Ok (reads f offset size) → cause ≡ None)
-    → FuseRow aim t answer cause → cause ≡ None
-aim_none (Err e) t answer cause f row = row.no_cause
-aim_none (Ok (says a)) t answer cause f row = row.no_cause
-aim_none (Ok (makes a)) t answer cause f (inl row) = row.no_cause
-aim_none (Ok (makes a)) t answer cause f (inr row) = row.no_cause
-aim_none (Ok (reads file offset size)) t answer cause f row = f file offset size refl
+aim_none : (fuse : Fuse) (aim : Result Aim Errno) (a : Around) (answer : Answer) (cause : Option Cause) → fuse.writables ≡ [] → OfFiles fuse aim
+    → ((f : MeasuredFile) (offset size : ℕ) → aim ≡ Ok (reads f offset size) → cause ≡ None) → FuseRow aim a answer cause → cause ≡ None
+aim_none fuse (Err e) a answer cause none of f row = row.1.no_cause
+aim_none fuse (Ok (says x)) a answer cause none of f row = row.1.no_cause
+aim_none fuse (Ok (makes x)) a answer cause none of f (same, inl row) = row.no_cause
+aim_none fuse (Ok (makes x)) a answer cause none of f (same, inr row) = row.no_cause
+aim_none fuse (Ok (reads file offset size)) a answer cause none of f row = f file offset size refl
+aim_none fuse (Ok (loads n file offset size)) a answer cause none of f row = absurd (none_at fuse.writables n file none of)
+aim_none fuse (Ok (writes n file offset new)) a answer cause none of f row = absurd (none_at fuse.writables n file none of.0)
+aim_none fuse (Ok (cuts n file node size)) a answer cause none of f row = absurd (none_at fuse.writables n file none of.0)
+aim_none fuse (Ok (syncs n file)) a answer cause none of f row = absurd (none_at fuse.writables n file none of)
 
 -- without an instance image, neither a get nor a put has a cause
 no_instance : (i : Instance) → Some i ≡ None → ⊥
@@ -148,19 +154,19 @@ content_of h o other f = absurd f
 module _ (plan : Known) (h : Held) (world : World) (booted : Exchanges) (new : Booted) (entropy : List ℕ) (boots : PlainPlan (means_of plan entropy) plan.lines booted new)
     (planned : (n : ℕ) (f : MeasuredFile) → file_at (files_at_boot plan.lines new.files) n ≡ Some f → IsPlannedFile plan.lines booted n f) (fits : Fits plan world h)
     (Stays : PlanLine → Type 0) (stay : (k : ℕ) (l : PlanLine) → item_line plan.lines k ≡ Some l → Stays l) where
-  turn_none : (g : Setting) (old : Moment) (turn : Turn) (mid : Moment) → g.items ≡ new.items → old.state.fuse.files ≡ files_at_boot plan.lines new.files → (request : Request) → request_of turn.frame ≡ request
-      → AsksNoRecord g request → Row g world old.sealings (trace old turn mid) request old.state mid.state turn.sent turn.cause → IsItemServed plan.lines world h Stays turn → IsFileServed plan.lines world h old turn
+  turn_none : (g : Setting) (old : Moment) (turn : Turn) (mid : Moment) → g.items ≡ new.items → NoWritables old.state → old.state.fuse.files ≡ files_at_boot plan.lines new.files → (request : Request) → request_of turn.frame ≡ request
+      → AsksNoRecord g request → Row g world old.sealings (heard_in old turn mid) request old.state mid.state turn.sent turn.cause → IsItemServed plan.lines world h Stays turn → IsFileServed plan.lines world h old turn
       → turn.cause ≡ None
-  turn_none g old turn mid items same (get_of uuid) is asks row item file = get_none g.image old.state.parts world old.sealings (trace old turn mid) uuid turn.sent turn.cause asks row.1
-  turn_none g old turn mid items same (put_of uuid text) is asks row item file = put_none g.image (trace old turn mid) uuid text old.state mid.state turn.sent turn.cause asks row
-  turn_none g old turn mid items same (read_of r) is asks row item file =
+  turn_none g old turn mid items bare same (get_of uuid) is asks row item file = get_none g.image old.state.parts world old.sealings (trace old turn mid) uuid turn.sent turn.cause asks row.1
+  turn_none g old turn mid items bare same (put_of uuid text) is asks row item file = put_none g.image (trace old turn mid) uuid text old.state mid.state turn.sent turn.cause asks row
+  turn_none g old turn mid items bare same (read_of r) is asks row item file =
       row_none g.items world r (trace old turn mid) turn.sent turn.cause (λ it at.
       let l = item_has_line plan.lines (before_lines boots.tables boots.image plan.secret entropy) new boots.rest r.item r.item it boots.others (omega arith) (ap (λ (xs : List Device). slice_get xs r.item) (sym items) ∙ at) in
       let fit = fits.items r.item l.0 l.1 in
       let c = content_of h (world.item r.item) l.0 fit in
       defined_none r c.0 true turn.sent turn.cause (item r l.0 c.0 is l.1 (stay r.item l.0 l.1) fit c.1)) row.1
-  turn_none g old turn mid items same (message_of m) is asks row item file =
-      aim_none (aim_of old.state.fuse m) (trace old turn mid) row.2.answer turn.cause (λ f offset size aim.
+  turn_none g old turn mid items bare same (message_of m) is asks row item file =
+      aim_none old.state.fuse (aim_of old.state.fuse m) _ row.2.answer turn.cause bare (all_of old.state.fuse m) (λ f offset size aim.
       let there = aim_file old.state.fuse m f offset size aim in
       let p = planned there.0 f (ap (λ (fs : Files). file_at fs there.0) (sym same) ∙ there.1) in
       let l = file_has_line plan.lines there.0 p.digest p.planned in
@@ -168,14 +174,14 @@ module _ (plan : Known) (h : Held) (world : World) (booted : Exchanges) (new : B
       read_none (number_of m) offset size fit.known.content true turn.sent turn.cause
       (file m f offset size l.k l.name there.0 p.digest is aim l.at p.number_is fit)) row.2.row
 
-  run_none : (g : Setting) (turns : List Turn) (old end : Moment) → g.items ≡ new.items → old.state.fuse.files ≡ files_at_boot plan.lines new.files → RunServed plan h Stays g world old turns end
+  run_none : (g : Setting) (turns : List Turn) (old end : Moment) → g.items ≡ new.items → NoWritables old.state → old.state.fuse.files ≡ files_at_boot plan.lines new.files → RunServed plan h Stays g world old turns end
       → AllByRecursion (λ t. AsksNoRecord g (request_of t.frame) → t.cause ≡ None) turns
-  run_none g [] old end items same run = tt
-  run_none g (turn ∷ turns) old end items same run =
+  run_none g [] old end items bare same run = tt
+  run_none g (turn ∷ turns) old end items bare same run =
       let mid : Moment = run.0 in
       let step : Step g world old turn mid = run.2 in
-      let kept = files_kept g world old.sealings (trace old turn mid) (request_of turn.frame) old.state mid.state turn.sent turn.cause step.row in
-      (λ asks. turn_none g old turn mid items same (request_of turn.frame) refl asks step.row run.3 run.4, run_none g turns mid end items (kept ∙ same) run.5)
+      let kept = files_kept g world old.sealings (heard_in old turn mid) (request_of turn.frame) old.state mid.state turn.sent turn.cause step.row in
+      (λ asks. turn_none g old turn mid items bare same (request_of turn.frame) refl asks step.row run.3 run.4, run_none g turns mid end items (still_none g world old turn mid step bare) (kept ∙ same) run.5)
 
 pub causes_none : HonestHostsCauseNone
 causes_none files plan store entropy old new ended s turns world unrecorded r w sealed fits stay =
@@ -186,4 +192,4 @@ causes_none files plan store entropy old new ended s turns world unrecorded r w 
     let made : Booted = record { tables = opens.tables; items = o.items; files = o.files; image = o.image; secret = known.plan.secret; entropy = o.left; writings = o.writings } in
     run_none known.plan s.made.stock.held world (heard_of s.booted) made s.bytes (from_plain (instance_in known.plan.lines) (means_of known.plan s.bytes) known.plan.lines (heard_of s.booted) made unrecorded opens.boots)
     (λ n f at. files_opened known.text known.plan s.bytes (heard_of s.booted) made grammar opens.boots n f at) fits
-    (StaysHeld (setting_of known.plan o) turns) stay (setting_of known.plan o) turns _ _ refl refl (sessions_served files plan store entropy old new ended s turns world unrecorded r w sealed)
+    (StaysHeld (setting_of known.plan o) turns) stay (setting_of known.plan o) turns _ _ refl (none_first known.plan.lines unrecorded) refl (sessions_served files plan store entropy old new ended s turns world unrecorded r w sealed)

@@ -15,7 +15,7 @@ use Rattle.instance_image.specs.Promised.{HoldsRecord, IsTextOf}
 use Rattle.instance_image.proofs.Promises.{get_right}
 use Rattle.guest_rules.specs.Machine.{Instance, Setting, World, Moment, Turn, Request, request_of, get_of, image_with}
 use Rattle.guest_rules.specs.RecordRow.{GetRow, no_image, got, get_sent, get_cause, IsForGet}
-use Rattle.guest_rules.specs.Step.{Step, Row, IsFor, most_for, trace}
+use Rattle.guest_rules.specs.Step.{Step, Row, IsFor, most_for, trace, heard_in}
 use Rattle.guest_laws.specs.Sessions.{IsGetDefined, whole, no_room, IsGetServed}
 
 pub same_instance : (a b : Instance) → Some a ≡ Some b → a ≡ b
@@ -59,7 +59,7 @@ module _ (g : Setting) (world : World) (old : Moment) (turn : Turn) (new : Momen
 
   served : IsGetDefined z.text turn.sent turn.cause
   served =
-      let row = subst (λ (q : Request). Row g world old.sealings (trace old turn new) q old.state new.state turn.sent turn.cause) request step.row in
+      let row = subst (λ (q : Request). Row g world old.sealings (heard_in old turn new) q old.state new.state turn.sent turn.cause) request step.row in
       row_served turn.sent turn.cause row.1
 
 pub get_served : (g : Setting) (world : World) (old : Moment) (turn : Turn) (new : Moment) → Step g world old turn new → old.told.honest ≡ true → IsGetServed g old turn

@@ -7,12 +7,12 @@ use Rattle.host_traits.specs.Did.{IsIn}
 use Rattle.instance_image.specs.Records.{Kept, IsLaid}
 use Rattle.instance_image.specs.Opening.{opening, IsOpened}
 use Rattle.guest_plan.specs.Plans.{Known}
-use Rattle.guest_boot.specs.Booting.{AreUnrecorded, InstanceLine, InstanceBoots, instance_in, before_lines}
+use Rattle.guest_boot.specs.Booting.{AllOnlyRead, InstanceLine, InstanceBoots, instance_in, before_lines}
 use Rattle.guest_laws.proofs.Unrecorded.{none_written, reads_only}
 use Rattle.guest_boot.proofs.Instances.{stands}
 use Rattle.guest_boot.proofs.Plans.{stays as others_stay}
 use Rattle.guest_rules.specs.Machine.{Setting, State, Moment, moment, Turn, nowhere, request_of}
-use Rattle.guest_rules.specs.Step.{Step, trace}
+use Rattle.guest_rules.specs.Step.{Step, heard_in}
 use Rattle.guest_rules.specs.Run.{Run}
 use Rattle.guest_cli.specs.Works.{instance_of, parts_of}
 use Rattle.guest_cli.specs.Booted.{Opened, Opens, records_of, setting_of, first_state, sealings_of}
@@ -24,6 +24,7 @@ use Rattle.guest_laws.proofs.Fits.{in_left}
 use Rattle.guest_laws.proofs.Gets.{get_served}
 use Rattle.guest_laws.proofs.Images.{span_is}
 use Rattle.guest_laws.proofs.Kept.{record_kept}
+use Rattle.guest_laws.proofs.Staying.{NoWritables, still_none, none_first}
 use Rattle.guest_laws.proofs.Laid.{IsImageLaid, row_laid, opened_laid, span_ends}
 use Rattle.guest_laws.proofs.Puts.{put_kept, put_served}
 
@@ -51,7 +52,7 @@ made_laid plan h own (Some i) tables image is heard imaged (Some salt) salted b 
     let same : b.0 ≡ k = image_is b.0 k (sym b.1 ∙ e) in
     subst IsLaid same (opened_laid (opening i.disk holds.span salt) (span_ends h i.disk i.part salt holds) b.2.rest b.0 opened)
 
-pub first_laid : (plan : Known) (entropy : List ℕ) (h : Held) (own : Exchanges) (o : Opened) → AreUnrecorded plan.lines → Opens plan entropy own o → AreHeld h own → FitsInstance plan h
+pub first_laid : (plan : Known) (entropy : List ℕ) (h : Held) (own : Exchanges) (o : Opened) → AllOnlyRead plan.lines → Opens plan entropy own o → AreHeld h own → FitsInstance plan h
     → IsImageLaid (setting_of plan o).image (parts_of (records_of o.image plan.secret))
 first_laid plan entropy h own o unrecorded opens heard imaged =
     let b = opens.boots in
@@ -61,10 +62,10 @@ first_laid plan entropy h own o unrecorded opens heard imaged =
 
 -- ---- turn by turn
 
-run_kept : (Imaged : Type 0) (g : Setting) (turns : List Turn) (old new : Moment) → Run g nowhere old turns new → (Imaged → IsImageLaid g.image old.state.parts) → old.told.honest ≡ true
+run_kept : (Imaged : Type 0) (g : Setting) (turns : List Turn) (old new : Moment) → Run g nowhere old turns new → NoWritables old.state → (Imaged → IsImageLaid g.image old.state.parts) → old.told.honest ≡ true
     → RunKept Imaged g old turns new
-run_kept Imaged g [] old new run laid honest = run
-run_kept Imaged g (turn ∷ turns) old new run laid honest =
+run_kept Imaged g [] old new run bare laid honest = run
+run_kept Imaged g (turn ∷ turns) old new run bare laid honest =
     let mid : Moment = run.0 in
     let step : Step g nowhere old turn mid = run.2 in (
       mid,
@@ -73,9 +74,9 @@ run_kept Imaged g (turn ∷ turns) old new run laid honest =
       get_served g nowhere old turn mid step honest,
       put_served g nowhere old turn mid step honest,
       put_kept g nowhere old turn mid step,
-      record_kept Imaged g nowhere old turn mid step laid,
-      run_kept Imaged g turns mid new run.3
-          (λ imaged. row_laid g nowhere old.sealings (trace old turn mid) (request_of turn.frame) old.state mid.state turn.sent turn.cause step.row (laid imaged)) (step.talked.honest ∙ honest),
+      record_kept Imaged g nowhere old turn mid step bare laid,
+      run_kept Imaged g turns mid new run.3 (still_none g nowhere old turn mid step bare)
+          (λ imaged. row_laid g nowhere old.sealings (heard_in old turn mid) (request_of turn.frame) old.state mid.state turn.sent turn.cause step.row (laid imaged)) (step.talked.honest ∙ honest),
     )
 
 pub records_served : RecordsAreServed
@@ -86,4 +87,4 @@ records_served files plan store entropy old new ended s turns unrecorded r =
     let boot = boot_held true s.booted h told.0 told.2 (lines_call p.lines s.booted (reads_only p.lines s.opened.writings s.booted (none_written p s.bytes (heard_of s.booted) s.opened unrecorded s.boots.opens) s.boots.calls)) in
     let g : Setting = setting_of p s.opened in
     let first : State = first_state p s.opened in
-    run_kept (FitsInstance p h) g turns (moment first s.mid (heard_of s.booted) (sealings_of s.opened)) _ r.plain (λ imaged. first_laid p s.bytes h (heard_of s.booted) s.opened unrecorded s.boots.opens boot.1 imaged) s.boots.talked.honest
+    run_kept (FitsInstance p h) g turns (moment first s.mid (heard_of s.booted) (sealings_of s.opened)) _ r.plain (none_first p.lines unrecorded) (λ imaged. first_laid p s.bytes h (heard_of s.booted) s.opened unrecorded s.boots.opens boot.1 imaged) s.boots.talked.honest

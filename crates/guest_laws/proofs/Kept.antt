@@ -15,12 +15,12 @@ use Rattle.instance_image.proofs.Others.{others_kept, put_right}
 use Rattle.instance_image.proofs.Promises.{none_answered}
 use Rattle.guest_rules.specs.Machine.{Instance, Setting, State, World, Moment, Turn, Request, request_of, message_of, read_of, get_of, put_of, image_with}
 use Rattle.guest_rules.specs.RecordRow.{PutRow, no_image, refused, no_entropy, put, put_code, nonce_of}
-use Rattle.guest_rules.specs.Step.{Step, Row, trace}
+use Rattle.guest_rules.specs.Step.{Step, Row, trace, heard_in}
 use Rattle.guest_laws.specs.Sessions.{WritesNone, RecordStands, IsRecordKept}
 use Rattle.guest_laws.proofs.Gets.{same_instance, no_instance}
 use Rattle.guest_laws.proofs.Laid.{IsImageLaid, fault_keeps}
 use Rattle.guest_laws.proofs.Puts.{did, laid_in}
-use Rattle.guest_laws.proofs.Staying.{step_keeps}
+use Rattle.guest_laws.proofs.Staying.{NoWritables, step_keeps}
 
 -- the same parts, and the same held
 module _ (i : Instance) (uuid : List ℕ) (z : Sealing) (old new : Moment) (r : RecordStands i uuid z old) where
@@ -83,16 +83,16 @@ module _ (g : Setting) (world : World) (old : Moment) (turn : Turn) (new : Momen
       (λ zero. e ∙ ap (λ (n : ℕ). sent_code 3 n) zero)
 
   put_leaves : RecordStands i other z new
-  put_leaves = by_row turn.sent turn.cause (subst (λ (q : Request). Row g world old.sealings (trace old turn new) q old.state new.state turn.sent turn.cause) request step.row) refl
+  put_leaves = by_row turn.sent turn.cause (subst (λ (q : Request). Row g world old.sealings (heard_in old turn new) q old.state new.state turn.sent turn.cause) request step.row) refl
 
-pub record_kept : (Imaged : Type 0) (g : Setting) (world : World) (old : Moment) (turn : Turn) (new : Moment) → Step g world old turn new → (Imaged → IsImageLaid g.image old.state.parts)
+pub record_kept : (Imaged : Type 0) (g : Setting) (world : World) (old : Moment) (turn : Turn) (new : Moment) → Step g world old turn new → NoWritables old.state → (Imaged → IsImageLaid g.image old.state.parts)
     → IsRecordKept Imaged g old turn new
-record_kept Imaged g world old turn new step laid imaged i uuid z image unput r = by_request (request_of turn.frame) refl where
-  row_at : (request : Request) → request_of turn.frame ≡ request → Row g world old.sealings (trace old turn new) request old.state new.state turn.sent turn.cause
-  row_at request is = subst (λ (q : Request). Row g world old.sealings (trace old turn new) q old.state new.state turn.sent turn.cause) is step.row
+record_kept Imaged g world old turn new step bare laid imaged i uuid z image unput r = by_request (request_of turn.frame) refl where
+  row_at : (request : Request) → request_of turn.frame ≡ request → Row g world old.sealings (heard_in old turn new) request old.state new.state turn.sent turn.cause
+  row_at request is = subst (λ (q : Request). Row g world old.sealings (heard_in old turn new) q old.state new.state turn.sent turn.cause) is step.row
 
   keeps : (request : Request) → request_of turn.frame ≡ request → WritesNone g request → new.told.held ≡ Some r.held
-  keeps request is none = step_keeps g world old turn new r.held (subst (WritesNone g) (sym is) none) step r.held_is
+  keeps request is none = step_keeps g world old turn new r.held bare (subst (WritesNone g) (sym is) none) step r.held_is
 
   by_request : (request : Request) → request_of turn.frame ≡ request → RecordStands i uuid z new
   by_request (message_of m) is = still i uuid z old new r (row_at (message_of m) is).1 (keeps (message_of m) is tt)

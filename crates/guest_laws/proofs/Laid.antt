@@ -22,6 +22,7 @@ use Rattle.instance_image.proofs.Laying.{end_of, end_more, laid_none, laid_on, s
 use Rattle.guest_boot.specs.Finding.{part_of}
 use Rattle.guest_rules.specs.Machine.{Instance, Setting, State, World, Request, message_of, read_of, get_of, put_of, image_with}
 use Rattle.guest_rules.specs.RecordRow.{PutRow, no_image, refused, no_entropy, put}
+use Rattle.guest_rules.specs.MessageRow.{Heard}
 use Rattle.guest_rules.specs.Step.{Row}
 use Rattle.guest_laws.specs.Fitting.{HoldsInstance}
 use Rattle.guest_laws.proofs.Inside.{part_inside}
@@ -102,9 +103,9 @@ put_laid image t uuid text old new sent cause (put i part (Err why) there fits s
 put_laid image t uuid text old new sent cause (put i part (Ok u) there fits some outcome is) l =
     subst (λ (o : Option Instance). IsImageLaid o new.parts) (sym there) (put_made i uuid text old.parts new.parts t outcome (subst (λ (o : Option Instance). IsImageLaid o old.parts) there l))
 
-pub row_laid : (g : Setting) (world : World) (run : List Sealing) (t : Trace) (request : Request) (old new : State) (sent : Sent) (cause : Option Cause) → Row g world run t request old new sent cause
+pub row_laid : (g : Setting) (world : World) (run : List Sealing) (h : Heard) (request : Request) (old new : State) (sent : Sent) (cause : Option Cause) → Row g world run h request old new sent cause
     → IsImageLaid g.image old.parts → IsImageLaid g.image new.parts
-row_laid g world run t (message_of m) old new sent cause row l = same_parts g.image old.parts new.parts row.1 l
-row_laid g world run t (read_of r) old new sent cause row l = same_parts g.image old.parts new.parts (ap (λ (s : State). s.parts) row.0) l
-row_laid g world run t (get_of uuid) old new sent cause row l = same_parts g.image old.parts new.parts (ap (λ (s : State). s.parts) row.0) l
-row_laid g world run t (put_of uuid text) old new sent cause row l = put_laid g.image t uuid text old new sent cause row l
+row_laid g world run h (message_of m) old new sent cause row l = same_parts g.image old.parts new.parts row.1 l
+row_laid g world run h (read_of r) old new sent cause row l = same_parts g.image old.parts new.parts (ap (λ (s : State). s.parts) row.0) l
+row_laid g world run h (get_of uuid) old new sent cause row l = same_parts g.image old.parts new.parts (ap (λ (s : State). s.parts) row.0) l
+row_laid g world run h (put_of uuid text) old new sent cause row l = put_laid g.image h.trace uuid text old new sent cause row l

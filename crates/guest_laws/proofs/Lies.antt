@@ -23,8 +23,9 @@ use Rattle.fuse_codec.specs.Reply.{Answer}
 use Rattle.fuse_server.specs.Aims.{Aim}
 use Rattle.fuse_server.specs.Rows.{FuseRow, ReadRow, read_bytes, read_blamed, read_no_room}
 use Rattle.guest_rules.specs.Machine.{World, ItemRead, Request}
+use Rattle.guest_rules.specs.MessageRow.{around_message}
 use Rattle.guest_rules.specs.ItemRow.{ItemRow, no_item, too_large, served, blamed, no_memory}
-use Rattle.guest_rules.specs.Step.{Row, trace}
+use Rattle.guest_rules.specs.Step.{Row, trace, heard_in}
 use Rattle.guest_rules.specs.Run.{IsWorld}
 use Rattle.guest_rules.proofs.Standing.{Known, item_apart, file_apart, world_last, known_by, known_last}
 use Rattle.guest_laws.specs.Lies.{IsLie, ItemMismatchesLie, ReadMismatchesLie}
@@ -57,7 +58,7 @@ item_mismatch items world t r it sent cause x at (blamed other c there fits blam
 pub items_lie : ItemMismatchesLie
 items_lie g world old turn new r it content x step request at item is w cause =
     let own : IsWorld g old.state world (heard_of turn.own) = world_last g old.state world old.heard (heard_of turn.own) (subst (λ (z : Exchanges). IsWorld g old.state world z) step.heard w) in
-    let row = subst (λ (q : Request). Row g world old.sealings (trace old turn new) q old.state new.state turn.sent turn.cause) request step.row in
+    let row = subst (λ (q : Request). Row g world old.sealings (heard_in old turn new) q old.state new.state turn.sent turn.cause) request step.row in
     let found = item_mismatch g.items world (trace old turn new) r it turn.sent turn.cause x at row.1 cause in
     lie it.layout it.measure content (trace old turn new) x (measured_tree it.measure content (w.items r.item it content at is))
     (item_apart g old.state world (heard_of turn.own) r.item it content at is own) found
@@ -73,8 +74,8 @@ pub reads_lie : ReadMismatchesLie
 reads_lie g world old turn new m n f offset size c x step request aim there is opened w cause =
     let known = known_by g old.state world old.heard new.heard (heard_of turn.own) step.heard opened w in
     let own = known_last g old.state world old.heard (heard_of turn.own) (subst (λ (z : Exchanges). Known g old.state world z) step.heard known) in
-    let row = subst (λ (q : Request). Row g world old.sealings (trace old turn new) q old.state new.state turn.sent turn.cause) request step.row in
-    let read = subst (λ (a : Result Aim Errno). FuseRow a (trace old turn new) row.2.answer turn.cause) aim row.2.row in
-    let found = read_mismatch f offset size (trace old turn new) row.2.answer turn.cause x read cause in
+    let row = subst (λ (q : Request). Row g world old.sealings (heard_in old turn new) q old.state new.state turn.sent turn.cause) request step.row in
+    let read = subst (λ (a : Result Aim Errno). FuseRow a (around_message (heard_in old turn new) old.state.fuse new.state.fuse) row.2.answer turn.cause) aim row.2.row in
+    let found = read_mismatch f offset size (trace old turn new) row.2.answer turn.cause x read.1 cause in
     lie (layout_of f) f.measure c.content (trace old turn new) x (known.files n f c there is).tree
     (file_apart g old.state world (heard_of turn.own) n f c there is own) found

@@ -52,7 +52,8 @@ module _ (h : Held) (disk : ℕ) (t : Table) (true_table : (own : Exchanges) (u 
       subst (λ (z : Booted). Knows disk t z.tables) (sym b.new_is) (subst (λ (z : List TableOn). Knows disk t z) (sym f.new_is) k)
   line_knows s mid (line.File name file digest) own known heard b = subst (λ (z : Booted). Knows disk t z.tables) (sym b.new_is) known
   line_knows s mid (line.Instance d name) own known heard b = subst (λ (z : Booted). Knows disk t z.tables) (sym b.1) known
-  line_knows s mid other own known heard b = absurd b
+  line_knows s mid (line.Write name file) own known heard b = absurd b
+  line_knows s mid (line.WriteDir name file) own known heard b = subst (λ (z : Booted). Knows disk t z.tables) (sym b.1) known
 
   -- the tables that were read for the instance line
   pub instance_knows : (i : Option InstanceLine) (salt : Option (List ℕ)) (own : Exchanges) (tables : List TableOn) (image : Option Kept) → InstanceBoots i salt own tables image → AreTrue h disk own → Knows disk t tables
@@ -82,7 +83,8 @@ line_keeps s mid (line.Blob file m) own k it b e = subst (λ (z : Booted). slice
 line_keeps s mid (line.Apk d a i how) own k it b e = subst (λ (z : Booted). slice_get z.items k ≡ Some it) (sym b.new_is) (get_left s.items _ k it e)
 line_keeps s mid (line.File name file digest) own k it b e = subst (λ (z : Booted). slice_get z.items k ≡ Some it) (sym b.new_is) e
 line_keeps s mid (line.Instance d name) own k it b e = subst (λ (z : Booted). slice_get z.items k ≡ Some it) (sym b.1) e
-line_keeps s mid other own k it b e = absurd b
+line_keeps s mid (line.Write name file) own k it b e = absurd b
+line_keeps s mid (line.WriteDir name file) own k it b e = subst (λ (z : Booted). slice_get z.items k ≡ Some it) (sym b.1) e
 
 pub keeps : (lines : List PlanLine) (s new : Booted) (own : Exchanges) (k : ℕ) (it : Device) → PlainBoots s lines own new → slice_get s.items k ≡ Some it → slice_get new.items k ≡ Some it
 keeps [] s new own k it b e = subst (λ (z : Booted). slice_get z.items k ≡ Some it) (sym b.1) e
@@ -129,4 +131,7 @@ module _ (h : Held) (disk : ℕ) (t : Table) (true_table : (own : Exchanges) (u 
   at_line (line.Instance d name ∷ lines) s new own k n b known heard is e =
       let more : length b.2.items ≡ length s.items = ap (λ (z : Booted). length z.items) b.4.1 in
       at_line lines b.2 new b.1 k n b.5 (line_knows h disk t true_table s b.2 (line.Instance d name) b.0 known (true_left h disk own b.0 b.1 b.3 heard) b.4) (true_right h disk own b.0 b.1 b.3 heard) is (omega (arith, e, more))
-  at_line (other ∷ lines) s new own k n b known heard is e = absurd b.4
+  at_line (line.Write name file ∷ lines) s new own k n b known heard is e = absurd b.4
+  at_line (line.WriteDir name file ∷ lines) s new own k n b known heard is e =
+      let more : length b.2.items ≡ length s.items = ap (λ (z : Booted). length z.items) b.4.1 in
+      at_line lines b.2 new b.1 k n b.5 (line_knows h disk t true_table s b.2 (line.WriteDir name file) b.0 known (true_left h disk own b.0 b.1 b.3 heard) b.4) (true_right h disk own b.0 b.1 b.3 heard) is (omega (arith, e, more))

@@ -7,7 +7,6 @@ use Rattle.std.proofs.lemmas.Bool.Decides.{nat_tests}
 use Rattle.std.proofs.lemmas.List.{length-append}
 use Rattle.mg_base.specs.declared.errno.Errno.{Errno}
 use Rattle.mg_base.specs.declared.errno.Errno.TheVariants.{Enoent}
-use Rattle.host_traits.specs.Did.{Trace}
 use Rattle.session_frames.specs.Replies.{Sent}
 use Rattle.verity_path.specs.declared.device.Cause.{Cause}
 use Rattle.authfs_dirs.specs.declared.kind.Kind.{Kind}
@@ -20,15 +19,17 @@ use Rattle.fuse_codec.specs.Message.{Message, Bad}
 use Rattle.fuse_codec.specs.Reply as reply
 use Rattle.fuse_codec.specs.Reply.{Answer}
 use Rattle.fuse_server.specs.State.{State as Fuse}
-use Rattle.fuse_server.specs.Effects.{Change, nothing, initialises, counts, forgets, forgets_all, opens, closes, destroys, change_of, Changed, Next, UnlessRefused, counted, all_forgotten}
+use Rattle.fuse_server.specs.Effects.{Change, nothing, rewrites, initialises, counts, forgets, forgets_all, opens, closes, destroys, change_of, Changed, Next, UnlessRefused, counted, all_forgotten}
 use Rattle.guest_boot.specs.Booting.{means_of}
-use Rattle.guest_names.specs.Standing.{NamedFile, files_in, file_count, names_at_boot}
+use Rattle.mg_base.specs.declared.values.Digest.{Digest}
+use Rattle.guest_names.specs.Standing.{NamedFile, kind_by, files_in, file_count, names_at_boot}
 use Rattle.guest_names.specs.Promises.{StandsSound}
 use Rattle.guest_names.proofs.Making.{counted as files_counted}
 use Rattle.guest_names.proofs.Nodes.{entries_from, root_of, node_of, ArePlanted, planted_from_first, place_at}
 use Rattle.guest_names.proofs.Sound.{names_found, no_other, boots_sound}
 use Rattle.instance_image.specs.Sealings.{Sealing}
 use Rattle.guest_rules.specs.Machine.{Setting, State, World, Moment, moment, Turn, Request, message_of, read_of, get_of, put_of, request_of}
+use Rattle.guest_rules.specs.MessageRow.{Heard}
 use Rattle.guest_rules.specs.Step.{Row}
 use Rattle.guest_rules.specs.Run.{Run}
 use Rattle.guest_rules.proofs.Standing.{files_kept, put_keeps}
@@ -171,6 +172,7 @@ module _ (s new : Fuse) where
 
   changed_keeps : (node : ℕ) (change : Change) (a : Answer) → Changed s node change a new → KeepsNames s new
   changed_keeps node nothing a u = same_state u
+  changed_keeps node rewrites a u = rw u (keeps_all s.names.nodes)
   changed_keeps node (initialises major) a u = unless _ a u (λ e. rw e (keeps_all s.names.nodes))
   changed_keeps node (counts name) a u = unless _ a u (keeps_counted s new (lookup_check s.names.nodes node name))
   changed_keeps node (forgets n) a u = unless _ a u (λ e. keeps_if s _ new s.ready e (keeps_forgotten s.names node n))
@@ -185,12 +187,12 @@ module _ (s new : Fuse) where
 
 -- ---- a run
 
-row_keeps : (g : Setting) (world : World) (run : List Sealing) (t : Trace) (request : Request) (old new : State) (sent : Sent) (cause : Option Cause) → Row g world run t request old new sent cause
+row_keeps : (g : Setting) (world : World) (run : List Sealing) (h : Heard) (request : Request) (old new : State) (sent : Sent) (cause : Option Cause) → Row g world run h request old new sent cause
     → KeepsNames old.fuse new.fuse
-row_keeps g world run t (message_of m) old new sent cause row = next_keeps old.fuse new.fuse m row.2.answer row.2.next
-row_keeps g world run t (read_of r) old new sent cause row = same_state old.fuse new.fuse (ap (λ (s : State). s.fuse) row.0)
-row_keeps g world run t (get_of uuid) old new sent cause row = same_state old.fuse new.fuse (ap (λ (s : State). s.fuse) row.0)
-row_keeps g world run t (put_of uuid text) old new sent cause row = same_state old.fuse new.fuse (put_keeps g.image t uuid text old new sent cause row)
+row_keeps g world run h (message_of m) old new sent cause row = next_keeps old.fuse new.fuse m row.2.answer row.2.next
+row_keeps g world run h (read_of r) old new sent cause row = same_state old.fuse new.fuse (ap (λ (s : State). s.fuse) row.0)
+row_keeps g world run h (get_of uuid) old new sent cause row = same_state old.fuse new.fuse (ap (λ (s : State). s.fuse) row.0)
+row_keeps g world run h (put_of uuid text) old new sent cause row = same_state old.fuse new.fuse (put_keeps g.image h.trace uuid text old new sent cause row)
 
 module _ (g : Setting) (world : World) where
   run_keeps : (old : Moment) (turns : List Turn) (new : Moment) → Run g world old turns new → KeepsNames old.state.fuse new.state.fuse
@@ -208,8 +210,8 @@ looks : (m : NodeMap) (x : Node) (name : List ℕ) → table.get m 1 ≡ Some x 
 unfolding lookup_check directory
 looks m x name at dir = rw (at, dir) refl
 
-abbrev kind_of : Option Node → Option Kind
-kind_of o = option_map (λ (x : Node). x.kind) o
+abbrev node_kind : Option Node → Option Kind
+node_kind o = option_map (λ (x : Node). x.kind) o
 
 named_stands : (n : ℕ) (x : Node) (p : ℕ) → x.parent ≡ Some p → stands n x ≡ true
 named_stands n x p within = ap (λ (o : Option ℕ). (n == 1) || is_some o) within ∙ last (n == 1) where
@@ -231,9 +233,13 @@ module _ (s new : Fuse) (root : IsRoot (node_at s.names)) (keeps : KeepsNames s 
   unfolding Keeps
   kind_kept n p child =
       let y = keeps n child.node child.there (named_stands n child.node p child.within) in
-      ap kind_of y.1 ∙ ap (λ (k : Kind). Some k) y.2.kind ∙ sym (ap kind_of child.there)
+      ap node_kind y.1 ∙ ap (λ (k : Kind). Some k) y.2.kind ∙ sym (ap node_kind child.there)
 
 -- ---- what is listed
+
+no_dir : (number : ℕ) (o : Option Digest) → (if is_dir (kind_by number o) then 4 else 8) ≡ 8
+no_dir number None = refl
+no_dir number (Some digest) = refl
 
 module _ (s new : Fuse) (files : List NamedFile) (planted : ArePlanted s.names files) (keeps : KeepsNames s new) where
   -- a name is still that of a file
@@ -241,7 +247,7 @@ module _ (s new : Fuse) (files : List NamedFile) (planted : ArePlanted s.names f
   unfolding Keeps
   file_kind k f at =
       let y = keeps (k + 2) (node_of f) (planted.nodes k f at) (named_stands (k + 2) (node_of f) 1 refl) in
-      ap kind_number y.1 ∙ ap (λ (kind : Kind). if is_dir kind then 4 else 8) y.2.kind
+      ap kind_number y.1 ∙ ap (λ (kind : Kind). if is_dir kind then 4 else 8) y.2.kind ∙ no_dir f.number f.digest
 
   entries_listed : (before after : List NamedFile) (c n : ℕ) → files ≡ before ++ after → n ≡ length before + 2 → map (dirent new.names.nodes) (entries_from c n after) ≡ file_dirents c n after
   entries_listed before [] c n cut is = refl
@@ -259,10 +265,10 @@ module _ (s new : Fuse) (files : List NamedFile) (planted : ArePlanted s.names f
 
 pub names_stay : NamesStay
 names_stay text plan own o entropy g world told heard sealings turns new spelled boot run = record {
-  names = λ before name file digest is.
-      let at_first = names_found text plan spelled before name file digest is in
-      let child = finds_children names 1 (file_count before + 2) name sound.sound at_first.0 in
-      (name_kept first now sound.sound.tree.root keeps name ∙ at_first.0, kind_kept first now sound.sound.tree.root keeps (file_count before + 2) 1 child ∙ at_first.1);
+  names = λ before f is.
+      let at_first = names_found text plan spelled before f is in
+      let child = finds_children names 1 (file_count before + 2) f.name sound.sound at_first.0 in
+      (name_kept first now sound.sound.tree.root keeps f.name ∙ at_first.0, kind_kept first now sound.sound.tree.root keeps (file_count before + 2) 1 child ∙ at_first.1);
   others = λ name node is. no_other plan.lines name node (sym (name_kept first now sound.sound.tree.root keeps name) ∙ is);
   listed = root_listed first now (files_in plan.lines) (planted_from_first (files_in plan.lines)) keeps;
   files = run_files g world start turns new run;

@@ -18,7 +18,7 @@ use Rattle.instance_image.proofs.Others.{sizes_kept, right}
 use Rattle.instance_image.proofs.Promises.{DidPut, puts_held, puts_hold}
 use Rattle.guest_rules.specs.Machine.{Instance, Setting, World, Moment, Turn, Request, request_of, put_of, image_with}
 use Rattle.guest_rules.specs.RecordRow.{PutRow, no_image, refused, no_entropy, put, put_code, put_cause, nonce_of, IsForPut}
-use Rattle.guest_rules.specs.Step.{Step, Row, IsFor, most_for, trace}
+use Rattle.guest_rules.specs.Step.{Step, Row, IsFor, most_for, trace, heard_in}
 use Rattle.guest_laws.specs.Sessions.{IsWritten, IsPutKept, IsPutDefined, written, out_of_memory, IsPutServed}
 use Rattle.guest_laws.proofs.Laid.{IsImageLaid}
 use Rattle.guest_laws.proofs.Gets.{same_instance, no_instance}
@@ -89,7 +89,7 @@ module _ (g : Setting) (world : World) (old : Moment) (turn : Turn) (new : Momen
         leaves some (subst (λ (k : Instance). PutOutcome (image_with k old.state.parts) uuid text (image_with k new.state.parts) (Ok tt) (trace old turn new)) same outcome)
 
     is_kept : turn.sent ≡ sent_code 3 0 → IsWritten i uuid text new
-    is_kept e = row_kept turn.sent turn.cause (subst (λ (q : Request). Row g world old.sealings (trace old turn new) q old.state new.state turn.sent turn.cause) request step.row) e
+    is_kept e = row_kept turn.sent turn.cause (subst (λ (q : Request). Row g world old.sealings (heard_in old turn new) q old.state new.state turn.sent turn.cause) request step.row) e
 
 -- ---- a put that may be made
 
@@ -117,7 +117,7 @@ module _ (g : Setting) (world : World) (old : Moment) (turn : Turn) (new : Momen
       put_defined r (made r (subst (λ (k : Instance). PutOutcome (image_with k old.state.parts) uuid text (image_with k new.state.parts) r (trace old turn new)) same outcome))
 
   is_served : IsPutDefined turn.sent turn.cause
-  is_served = row_served turn.sent turn.cause (subst (λ (q : Request). Row g world old.sealings (trace old turn new) q old.state new.state turn.sent turn.cause) request step.row)
+  is_served = row_served turn.sent turn.cause (subst (λ (q : Request). Row g world old.sealings (heard_in old turn new) q old.state new.state turn.sent turn.cause) request step.row)
 
 pub laid_in : (image : Option Instance) (i : Instance) (parts : List Part) → image ≡ Some i → IsImageLaid image parts → IsLaid (image_with i parts)
 laid_in image i parts e l = subst (λ (o : Option Instance). IsImageLaid o parts) e l

@@ -21,10 +21,10 @@ use Rattle.fuse_server.proofs.Keeping.{aim_file}
 use Rattle.guest_plan.specs.Plans.{Known}
 use Rattle.guest_plan.specs.declared.plan.PlanLine.{PlanLine}
 use Rattle.guest_plan.specs.declared.plan.PlanLine.TheVariants as line
-use Rattle.guest_boot.specs.Booting.{AreServed, AreUnrecorded, Booted, Means, means_of, instance_in, device_on, before_lines}
+use Rattle.guest_boot.specs.Booting.{AreServed, AllOnlyRead, Booted, Means, means_of, instance_in, device_on, before_lines}
 use Rattle.guest_boot.proofs.Makes.{device_is_item}
 use Rattle.guest_rules.specs.Machine.{Instance, Setting, State, World, Salted, Moment, Turn, IsItem, request_of, moment}
-use Rattle.guest_rules.specs.Step.{Step, trace}
+use Rattle.guest_rules.specs.Step.{Step, heard_in}
 use Rattle.guest_rules.specs.Run.{Run, IsWorld, AreSealed, AreOpened, calls_of}
 use Rattle.guest_rules.specs.Faithful.{HoldsDevice, HoldsContent, IsDefined, IsReadDefined}
 use Rattle.guest_rules.proofs.Serving.{all_served, files_served}
@@ -42,7 +42,7 @@ use Rattle.guest_laws.proofs.Items.{served_line}
 use Rattle.guest_laws.proofs.Lines.{same_line, get_last, keeps}
 use Rattle.guest_laws.proofs.Unrecorded.{PlainLine, PlainBoots, PlainPlan, from_plain, none_written, reads_only}
 use Rattle.guest_laws.proofs.Served.{apk_kept}
-use Rattle.guest_laws.proofs.Staying.{IsSameBut, same_self, same_on, step_keeps, step_same, file_stays, parts_stay}
+use Rattle.guest_laws.proofs.Staying.{NoWritables, still_none, none_first, IsSameBut, same_self, same_on, step_keeps, step_same, file_stays, parts_stay}
 
 -- ---- a line's item is held
 
@@ -142,32 +142,32 @@ module _ (g : Setting) (world : World) (plan : Known) (h : Held) (all : List Tur
   holds_now now turns l k d at (inl apart) = d.stays now at.same apart
   holds_now now turns l k d at (inr unwritten) = subst (λ (z : Held). HoldsDevice z d.it d.content) (sym (at.quiet unwritten).0) d.holds
 
-  now_next : (old : Moment) (turn : Turn) (turns : List Turn) (mid : Moment) (now : Held) → Step g world old turn mid → old.told.held ≡ Some now → IsNow now (turn ∷ turns)
+  now_next : (old : Moment) (turn : Turn) (turns : List Turn) (mid : Moment) (now : Held) → Step g world old turn mid → old.told.held ≡ Some now → NoWritables old.state → IsNow now (turn ∷ turns)
       → (next : Held) × (mid.told.held ≡ Some next) × IsNow next turns
-  now_next old turn turns mid now step told at =
-      let next = step_same g world old turn mid now step told in (
+  now_next old turn turns mid now step told bare at =
+      let next = step_same g world old turn mid now bare step told in (
         next.0,
         next.1,
         record {
           same = same_on g.image h now next.0 at.same next.2;
           quiet = λ unwritten.
               let q = at.quiet unwritten in
-              (some_held next.0 now (sym next.1 ∙ step_keeps g world old turn mid now q.1.0 step told) ∙ q.0, q.1.1);
+              (some_held next.0 now (sym next.1 ∙ step_keeps g world old turn mid now bare q.1.0 step told) ∙ q.0, q.1.1);
         },
       )
 
-  run_served : (turns : List Turn) (old new : Moment) (now : Held) → Run g world old turns new → old.told.held ≡ Some now → IsNow now turns
+  run_served : (turns : List Turn) (old new : Moment) (now : Held) → Run g world old turns new → old.told.held ≡ Some now → NoWritables old.state → IsNow now turns
       → old.told.honest ≡ true → AreOpened old.state old.heard
       → IsWorld g old.state world new.heard → old.told.scarce ≡ true → RunServed plan h (StaysHeld g all) g world old turns new
-  run_served [] old new now run told at honest opened w scarce = run
-  run_served (turn ∷ turns) old new now run told at honest opened w scarce =
+  run_served [] old new now run told bare at honest opened w scarce = run
+  run_served (turn ∷ turns) old new now run told bare at honest opened w scarce =
       let mid : Moment = run.0 in
       let step : Step g world old turn mid = run.2 in
       let later = run_heard g world mid turns new run.3 in
       let here : IsWorld g old.state world mid.heard = world_first g old.state world mid.heard later.0 (subst (λ (x : Exchanges). IsWorld g old.state world x) later.1 w) in
       let wants : mid.told.scarce ≡ true = step.talked.scarce ∙ scarce in
-      let same = files_kept g world old.sealings (trace old turn mid) (request_of turn.frame) old.state mid.state turn.sent turn.cause step.row in
-      let next = now_next old turn turns mid now step told at in (
+      let same = files_kept g world old.sealings (heard_in old turn mid) (request_of turn.frame) old.state mid.state turn.sent turn.cause step.row in
+      let next = now_next old turn turns mid now step told bare at in (
         mid,
         run.1,
         step,
@@ -186,7 +186,7 @@ module _ (g : Setting) (world : World) (plan : Known) (h : Held) (all : List Tur
             let held = file_stays g.image h now at.same f.file f.size f.measure c.content (content_held h f digest c (known.files there.0 f c there.1 is) holds) in
             let served = (files_served g world old turn mid now m there.0 f offset size c step request aim there.1 is opened here told held (inr honest)).0 in
             subst (λ (b : Bool). IsReadDefined (number_of m) offset size c.content b turn.sent turn.cause) wants served,
-        run_served turns mid new next.0 run.3 next.1 next.2 (step.talked.honest ∙ honest)
+        run_served turns mid new next.0 run.3 next.1 (still_none g world old turn mid step bare) next.2 (step.talked.honest ∙ honest)
             (opened_at old.state mid.state old.heard mid.heard (heard_of turn.own) same step.heard opened) (world_at g old.state mid.state world new.heard same w) wants,
       )
 
@@ -197,7 +197,7 @@ module _ (plan : Known) (h : Held) (mid : Told) (booted : List Made) (o : Opened
   abbrev first : State
   first = first_state plan o
 
-  turns_served : AreServed plan.lines → AreUnrecorded plan.lines → BootsOver plan entropy (before h) mid booted o → AreOpened first (heard_of booted) → (r : Recorded g first (sealings_of o) booted mid calls records finish turns)
+  turns_served : AreServed plan.lines → AllOnlyRead plan.lines → BootsOver plan entropy (before h) mid booted o → AreOpened first (heard_of booted) → (r : Recorded g first (sealings_of o) booted mid calls records finish turns)
       → IsWorld g first world (heard_of booted ++ heard_of (calls_of turns))
       → AreSealed g world (moment first mid (heard_of booted) (sealings_of o)) turns (moment r.state finish (heard_of booted ++ heard_of (calls_of turns)) r.sealed) r.plain
       → RunServed plan h (StaysHeld g turns) g world (moment first mid (heard_of booted) (sealings_of o)) turns (moment r.state finish (heard_of booted ++ heard_of (calls_of turns)) r.sealed)
@@ -210,7 +210,7 @@ module _ (plan : Known) (h : Held) (mid : Told) (booted : List Made) (o : Opened
       let made : Booted = record { tables = opens.tables; items = o.items; files = o.files; image = o.image; secret = plan.secret; entropy = o.left; writings = o.writings } in
       let kept : (k : ℕ) (l : PlanLine) → item_line plan.lines k ≡ Some l → FitsItem h (world.item k) l → IsKept g.image h world o.items l k = λ k l at fits.
       line_kept g.image (means_of plan entropy) plan.lines h world (heard_of booted) served made (from_plain (instance_in plan.lines) (means_of plan entropy) plan.lines (heard_of booted) made unrecorded opens.boots) boot.1 w.items l k at fits in
-      run_served g world plan h turns kept turns (moment first mid (heard_of booted) (sealings_of o)) (moment r.state finish all r.sealed) h (r.run world w sealed) mid_held
+      run_served g world plan h turns kept turns (moment first mid (heard_of booted) (sealings_of o)) (moment r.state finish all r.sealed) h (r.run world w sealed) mid_held (none_first plan.lines unrecorded)
       (record { same = same_self g.image h; quiet = λ unwritten. (refl, unwritten) }) over.talked.honest there w over.talked.scarce
 
 pub sessions_served : SessionsAreServed

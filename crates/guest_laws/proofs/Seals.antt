@@ -20,8 +20,10 @@ use Rattle.verity_path.specs.declared.walk.Layout.{Layout}
 use Rattle.verity_path.specs.declared.walk.Layout.TheVariants.{File, Parts}
 use Rattle.verity_path.specs.Calls.{call_for}
 use Rattle.ro_file.specs.Files.{layout_of}
-use Rattle.fuse_server.specs.Aims.{Aim, says, makes, reads, aim_of}
+use Rattle.fuse_server.specs.Aims.{Aim, says, makes, reads, loads, writes, cuts, syncs, aim_of}
+use Rattle.fuse_server.specs.State.{State as Fuse}
 use Rattle.fuse_server.specs.Rows.{IsForFuse}
+use Rattle.fuse_server.proofs.Keeping.{OfFiles, all_of}
 use Rattle.instance_image.specs.declared.faults.GetFault.{GetFault}
 use Rattle.instance_image.specs.declared.faults.GetFault.TheVariants as gets
 use Rattle.instance_image.specs.declared.faults.PutFault.{PutFault}
@@ -35,7 +37,7 @@ use Rattle.instance_image.proofs.Hearing.{gets_hear_sealed}
 use Rattle.instance_image.proofs.Promises.{none_answered}
 use Rattle.guest_rules.specs.Machine.{Instance, Setting, State, World, nowhere, Moment, moment, Turn, Request, message_of, read_of, get_of, put_of, request_of, image_with}
 use Rattle.guest_rules.specs.RecordRow.{GetRow, no_image, got, get_cause, IsForGet, IsForPut, PutRow, no_image as no_image_put, refused, no_entropy, put, nonce_of, put_sealings, sealing_if}
-use Rattle.guest_rules.specs.Step.{Step, Row, IsFor, most_for, seals, trace}
+use Rattle.guest_rules.specs.Step.{Step, Row, IsFor, most_for, seals, trace, heard_in}
 use Rattle.guest_rules.specs.Run.{Run, AreSealed, HeardOnlySealed}
 use Rattle.guest_cli.specs.Booted.{setting_of, first_state, sealings_of}
 use Rattle.guest_laws.specs.Sessions.{WritesNone, IsGetDefined, whole, no_room}
@@ -47,7 +49,7 @@ use Rattle.guest_laws.proofs.Keeping.{first_laid}
 use Rattle.guest_laws.proofs.Unrecorded.{none_written, none_sealed, reads_only}
 use Rattle.guest_laws.proofs.Laid.{IsImageLaid, row_laid, fault_keeps}
 use Rattle.guest_laws.proofs.Puts.{did, laid_in}
-use Rattle.guest_laws.proofs.Staying.{step_keeps}
+use Rattle.guest_laws.proofs.Staying.{NoWritables, none_at, still_none, none_first, step_keeps}
 
 -- ---- calls that read no sectors
 
@@ -76,11 +78,15 @@ in_file (File file size) count level i lies =
     elim (level == 0) as (λ v. ReadsSectors (if v then FileRead file (4096 * i) (min (size - 4096 * i) 4096) else TreeRead file level i) → ⊥) [ true ↦ λ s. s | false ↦ λ s. s ]
 in_file (Parts disk first tree) count level i lies = absurd lies
 
-message_asks : (aim : Result Aim Errno) (call : Call) (given : List ℕ) → reading (IsForFuse aim) call given → ReadsSectors call → ⊥
-message_asks (Err e) call given f s = f.0
-message_asks (Ok (says a)) call given f s = f.0
-message_asks (Ok (makes a)) call given f s = f.0
-message_asks (Ok (reads file offset size)) call given f s =
+message_asks : (fuse : Fuse) (aim : Result Aim Errno) (call : Call) (given : List ℕ) → fuse.writables ≡ [] → OfFiles fuse aim → IsForFuse aim call given → ReadsSectors call → ⊥
+message_asks fuse (Err e) call given none of f s = f
+message_asks fuse (Ok (says a)) call given none of f s = f
+message_asks fuse (Ok (makes a)) call given none of f s = f
+message_asks fuse (Ok (loads n file offset size)) call given none of f s = none_at fuse.writables n file none of
+message_asks fuse (Ok (writes n file offset new)) call given none of f s = none_at fuse.writables n file none of.0
+message_asks fuse (Ok (cuts n file node size)) call given none of f s = none_at fuse.writables n file none of.0
+message_asks fuse (Ok (syncs n file)) call given none of f s = none_at fuse.writables n file none of
+message_asks fuse (Ok (reads file offset size)) call given none of f s =
     let p = f.0.path in
     in_file (layout_of file) file.measure.blocks p.level (ancestor f.0.block p.level) tt (subst ReadsSectors p.call_is s)
 
@@ -101,10 +107,10 @@ holds_more (Some i) parts h x y holds = λ uuid p found. elim (holds uuid p foun
   | inr one ↦ inr (record { sealing = one.sealing; was = one_left x y one.sealing one.was; uuid_is = one.uuid_is; holds = one.holds })
 ]
 
-module _ (g : Setting) (earlier : List Sealing) (old : Moment) (turn : Turn) (mid : Moment) (step : Step g nowhere old turn mid) (now : Held) (told : old.told.held ≡ Some now)
+module _ (g : Setting) (earlier : List Sealing) (old : Moment) (turn : Turn) (mid : Moment) (step : Step g nowhere old turn mid) (bare : NoWritables old.state) (now : Held) (told : old.told.held ≡ Some now)
     (holds : HoldsKnown g.image old.state.parts now (earlier ++ old.sealings)) where
-  row_at : (request : Request) → request_of turn.frame ≡ request → Row g nowhere old.sealings (trace old turn mid) request old.state mid.state turn.sent turn.cause
-  row_at request is = subst (λ (q : Request). Row g nowhere old.sealings (trace old turn mid) q old.state mid.state turn.sent turn.cause) is step.row
+  row_at : (request : Request) → request_of turn.frame ≡ request → Row g nowhere old.sealings (heard_in old turn mid) request old.state mid.state turn.sent turn.cause
+  row_at request is = subst (λ (q : Request). Row g nowhere old.sealings (heard_in old turn mid) q old.state mid.state turn.sent turn.cause) is step.row
 
   calls_at : (request : Request) → request_of turn.frame ≡ request → Each (IsFor g old.state request) turn.own
   calls_at request is = subst (λ (q : Request). Each (IsFor g old.state q) turn.own) is step.calls
@@ -115,7 +121,7 @@ module _ (g : Setting) (earlier : List Sealing) (old : Moment) (turn : Turn) (mi
   heard_by : (request : Request) → request_of turn.frame ≡ request → ReadsNoSectors g request → (i : Instance) → g.image ≡ Some i → OnlySealed i.salt i.secret (earlier ++ old.sealings) (heard_of turn.own)
   heard_by (message_of m) is unread i image =
       none_heard i.salt i.secret (earlier ++ old.sealings) turn.own
-      (each_so (IsFor g old.state (message_of m)) IsUnsealed turn.own (λ call given f. message_asks (aim_of old.state.fuse m) call given f) (calls_at (message_of m) is))
+      (each_so (IsFor g old.state (message_of m)) IsUnsealed turn.own (λ call given f. message_asks old.state.fuse (aim_of old.state.fuse m) call given bare (all_of old.state.fuse m) f) (calls_at (message_of m) is))
   heard_by (read_of r) is unread i image =
       none_heard i.salt i.secret (earlier ++ old.sealings) turn.own
       (each_so (IsFor g old.state (read_of r)) IsUnsealed turn.own (λ call given f s.
@@ -157,7 +163,7 @@ module _ (g : Setting) (earlier : List Sealing) (old : Moment) (turn : Turn) (mi
   }
 
   keeps : (request : Request) → request_of turn.frame ≡ request → WritesNone g request → mid.told.held ≡ Some now
-  keeps request is none = step_keeps g nowhere old turn mid now (subst (WritesNone g) (sym is) none) step told
+  keeps request is none = step_keeps g nowhere old turn mid now bare (subst (WritesNone g) (sym is) none) step told
 
   quiet : heard_of turn.own ≡ [] → mid.told.held ≡ Some now
   quiet none = after.1 ∙ ap (λ (h : Held). Some h) (none_answered old.told.honest turn.own now after.0 none after.2)
@@ -250,16 +256,16 @@ module _ (g : Setting) (earlier : List Sealing) (old : Moment) (turn : Turn) (mi
 -- ---- a session
 
 run_sealed : (g : Setting) (world : World) (earlier : List Sealing) → world.sealed ≡ Some earlier → (turns : List Turn) (old new : Moment) (run : Run g nowhere old turns new) (now : Held)
-    → old.told.held ≡ Some now → IsImageLaid g.image old.state.parts → HoldsKnown g.image old.state.parts now (earlier ++ old.sealings)
+    → old.told.held ≡ Some now → NoWritables old.state → IsImageLaid g.image old.state.parts → HoldsKnown g.image old.state.parts now (earlier ++ old.sealings)
     → AllByRecursion (λ t. ReadsNoSectors g (request_of t.frame)) turns → AreSealed g world old turns new run
-run_sealed g world earlier known [] old new run now told laid holds unread = tt
-run_sealed g world earlier known (turn ∷ turns) old new run now told laid holds unread =
+run_sealed g world earlier known [] old new run now told bare laid holds unread = tt
+run_sealed g world earlier known (turn ∷ turns) old new run now told bare laid holds unread =
     let mid : Moment = run.0 in
     let step : Step g nowhere old turn mid = run.2 in
-    let next = turn_known g earlier old turn mid step now told holds laid (request_of turn.frame) refl in (
-      subst (λ (o : Option (List Sealing)). HeardOnlySealed g.image o old.sealings (heard_of turn.own)) (sym known) (turn_heard g earlier old turn mid step now told holds unread.0),
-      run_sealed g world earlier known turns mid new run.3 next.held next.held_is
-          (row_laid g nowhere old.sealings (trace old turn mid) (request_of turn.frame) old.state mid.state turn.sent turn.cause step.row laid) next.known unread.1,
+    let next = turn_known g earlier old turn mid step bare now told holds laid (request_of turn.frame) refl in (
+      subst (λ (o : Option (List Sealing)). HeardOnlySealed g.image o old.sealings (heard_of turn.own)) (sym known) (turn_heard g earlier old turn mid step bare now told holds unread.0),
+      run_sealed g world earlier known turns mid new run.3 next.held next.held_is (still_none g nowhere old turn mid step bare)
+          (row_laid g nowhere old.sealings (heard_in old turn mid) (request_of turn.frame) old.state mid.state turn.sent turn.cause step.row laid) next.known unread.1,
     )
 
 pub none_forged : HonestHostsForgeNone
@@ -270,21 +276,21 @@ none_forged files plan store entropy old new ended s turns world earlier unrecor
     let boot = boot_held true s.booted h told.0 told.2 (lines_call p.lines s.booted (reads_only p.lines s.opened.writings s.booted (none_written p s.bytes (heard_of s.booted) s.opened unrecorded s.boots.opens) s.boots.calls)) in
     let g : Setting = setting_of p s.opened in
     let first : State = first_state p s.opened in
-    run_sealed g world earlier known turns (moment first s.mid (heard_of s.booted) (sealings_of s.opened)) _ r.plain h (told.1 ∙ ap (λ (z : Held). Some z) boot.0)
+    run_sealed g world earlier known turns (moment first s.mid (heard_of s.booted) (sealings_of s.opened)) _ r.plain h (told.1 ∙ ap (λ (z : Held). Some z) boot.0) (none_first p.lines unrecorded)
     (first_laid p s.bytes h (heard_of s.booted) s.opened unrecorded s.boots.opens boot.1 fits)
     (subst (λ (x : List Sealing). HoldsKnown g.image first.parts h x) (sym (ap (λ (z : List Sealing). earlier ++ z) (none_sealed p s.bytes (heard_of s.booted) s.opened unrecorded s.boots.opens) ∙ append-nil earlier)) records) unread
 
-run_gets : (g : Setting) (earlier : List Sealing) (turns : List Turn) (old new : Moment) (run : Run g nowhere old turns new) (now : Held) → old.told.held ≡ Some now → old.told.honest ≡ true
+run_gets : (g : Setting) (earlier : List Sealing) (turns : List Turn) (old new : Moment) (run : Run g nowhere old turns new) (now : Held) → old.told.held ≡ Some now → NoWritables old.state → old.told.honest ≡ true
     → IsImageLaid g.image old.state.parts → HoldsKnown g.image old.state.parts now (earlier ++ old.sealings)
     → AllByRecursion (λ t. (uuid : List ℕ) → request_of t.frame ≡ get_of uuid → t.cause ≡ None) turns
-run_gets g earlier [] old new run now told honest laid holds = tt
-run_gets g earlier (turn ∷ turns) old new run now told honest laid holds =
+run_gets g earlier [] old new run now told bare honest laid holds = tt
+run_gets g earlier (turn ∷ turns) old new run now told bare honest laid holds =
     let mid : Moment = run.0 in
     let step : Step g nowhere old turn mid = run.2 in
-    let next = turn_known g earlier old turn mid step now told holds laid (request_of turn.frame) refl in (
-      get_causes_none g earlier old turn mid step now told holds honest,
-      run_gets g earlier turns mid new run.3 next.held next.held_is (step.talked.honest ∙ honest)
-          (row_laid g nowhere old.sealings (trace old turn mid) (request_of turn.frame) old.state mid.state turn.sent turn.cause step.row laid) next.known,
+    let next = turn_known g earlier old turn mid step bare now told holds laid (request_of turn.frame) refl in (
+      get_causes_none g earlier old turn mid step bare now told holds honest,
+      run_gets g earlier turns mid new run.3 next.held next.held_is (still_none g nowhere old turn mid step bare) (step.talked.honest ∙ honest)
+          (row_laid g nowhere old.sealings (heard_in old turn mid) (request_of turn.frame) old.state mid.state turn.sent turn.cause step.row laid) next.known,
     )
 
 pub gets_none : GetsCauseNone
@@ -295,6 +301,6 @@ gets_none files plan store entropy old new ended s turns earlier unrecorded r fi
     let boot = boot_held true s.booted h told.0 told.2 (lines_call p.lines s.booted (reads_only p.lines s.opened.writings s.booted (none_written p s.bytes (heard_of s.booted) s.opened unrecorded s.boots.opens) s.boots.calls)) in
     let g : Setting = setting_of p s.opened in
     let first : State = first_state p s.opened in
-    run_gets g earlier turns (moment first s.mid (heard_of s.booted) (sealings_of s.opened)) _ r.plain h (told.1 ∙ ap (λ (z : Held). Some z) boot.0) s.boots.talked.honest
+    run_gets g earlier turns (moment first s.mid (heard_of s.booted) (sealings_of s.opened)) _ r.plain h (told.1 ∙ ap (λ (z : Held). Some z) boot.0) (none_first p.lines unrecorded) s.boots.talked.honest
     (first_laid p s.bytes h (heard_of s.booted) s.opened unrecorded s.boots.opens boot.1 fits)
     (subst (λ (x : List Sealing). HoldsKnown g.image first.parts h x) (sym (ap (λ (z : List Sealing). earlier ++ z) (none_sealed p s.bytes (heard_of s.booted) s.opened unrecorded s.boots.opens) ∙ append-nil earlier)) records)

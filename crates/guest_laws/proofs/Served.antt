@@ -19,7 +19,7 @@ use Rattle.guest_boot.specs.Booting.{AreServed, Booted, Means, means_of, before_
 use Rattle.guest_laws.proofs.Unrecorded.{PlainPlan, from_plain}
 use Rattle.guest_rules.specs.Machine.{Setting, World, Moment, Turn, ItemRead, Request, IsItem, read_of, request_of}
 use Rattle.guest_rules.specs.ItemRow.{ItemRow, no_item, too_large, served, blamed, no_memory}
-use Rattle.guest_rules.specs.Step.{Step, Row, trace}
+use Rattle.guest_rules.specs.Step.{Step, Row, trace, heard_in}
 use Rattle.sha_tree.specs.Measured.{IsMeasured}
 use Rattle.guest_cli.specs.Booted.{setting_of}
 use Rattle.guest_rules.specs.Faithful.{HoldsDevice}
@@ -73,8 +73,8 @@ row_fails items world t r _ _ (no_memory it at small scarce order right) = inl s
 turn_fails : (g : Setting) (world : World) (old : Moment) (turn : Turn) (new : Moment) (r : ItemRead) → Step g world old turn new
     → request_of turn.frame ≡ read_of r → (failures_of turn.own ≡ 0) ⊎ HasFailed turn
 turn_fails g world old turn new r step request =
-    let row : Row g world old.sealings (trace old turn new) (read_of r) old.state new.state turn.sent turn.cause =
-    subst (λ (q : Request). Row g world old.sealings (trace old turn new) q old.state new.state turn.sent turn.cause) request step.row in
+    let row : Row g world old.sealings (heard_in old turn new) (read_of r) old.state new.state turn.sent turn.cause =
+    subst (λ (q : Request). Row g world old.sealings (heard_in old turn new) q old.state new.state turn.sent turn.cause) request step.row in
     ⊎_elim (λ none. inl none) (λ f. inr (record { one = f.0; sent = f.1; faults = f.2; cause = f.3 }))
     (row_fails g.items world (trace old turn new) r turn.sent turn.cause row.1)
 

@@ -28,7 +28,7 @@ use Rattle.guest_plan.specs.declared.plan.PlanLine.{PlanLine}
 use Rattle.guest_plan.specs.declared.plan.PlanLine.TheVariants as line
 use Rattle.ro_file.specs.Contents.{descriptor_of, IsFileMeasured}
 use Rattle.guest_boot.specs.Finding.{parts_in, part_in}
-use Rattle.guest_boot.specs.Booting.{AreServed, AreUnrecorded, measure_in}
+use Rattle.guest_boot.specs.Booting.{AreServed, AllOnlyRead, measure_in}
 use Rattle.session_frames.specs.Replies.{sent_code}
 use Rattle.guest_rules.specs.Machine.{World, Salted, Moment, Turn, ItemRead, request_of, read_of}
 use Rattle.guest_rules.specs.Step.{Step}
@@ -174,7 +174,7 @@ pub record HasFailed (turn : Turn) : Type 0 where
 abbrev pub ApkReadsAreServed : Type 0
 ApkReadsAreServed = (plan : Known) (entropy : List ℕ) (booted : Exchanges) (o : Opened) (world : World) (old : Moment) (turn : Turn) (new : Moment)
     (h : Held) (r : ItemRead) (content : List ℕ) (disk : ℕ) (apk idsig : List ℕ) (how : How) (m : Measure)
-    → Opens plan entropy booted o → AreUnrecorded plan.lines → AreServed plan.lines → Step (setting_of plan o) world old turn new → request_of turn.frame ≡ read_of r
+    → Opens plan entropy booted o → AllOnlyRead plan.lines → AreServed plan.lines → Step (setting_of plan o) world old turn new → request_of turn.frame ≡ read_of r
     → item_line plan.lines r.item ≡ Some (line.Apk disk apk idsig how) → world.item r.item ≡ Some content
     → IsWorld (setting_of plan o) old.state world new.heard → HoldsApk h disk apk idsig how m content
     → AreTrue h disk booted → AreTrue h disk (heard_of turn.own)

@@ -6,7 +6,7 @@ use Rattle.guest_plan.specs.Plans.{Known}
 use Rattle.guest_boot.specs.declared.faults.BootCause.TheVariants.{Memory}
 use Rattle.guest_boot.specs.declared.faults.BootFault.{BootFault}
 use Rattle.guest_boot.specs.Recording.{DidWriting}
-use Rattle.guest_boot.specs.Booting.{AreUnrecorded, IsForLines, most_of}
+use Rattle.guest_boot.specs.Booting.{AllOnlyRead, IsForLines, most_of}
 use Rattle.guest_rules.specs.Machine.{World}
 use Rattle.guest_cli.specs.declared.boot.Machine.{Machine}
 use Rattle.guest_cli.specs.Booted.{BootedOutcome}
@@ -16,6 +16,6 @@ use Rattle.guest_laws.specs.Fitting.{Fits}
 -- lines, or there was no memory; and what is held stays.
 abbrev pub BootsPass : Type 0
 BootsPass = (plan : Known) (entropy : List ℕ) (world : World) (old new : Told) (result : Result Machine BootFault) (h : Held)
-    → DidWriting (IsForLines plan.lines) (most_of plan.lines) old new (BootedOutcome plan entropy result) → AreUnrecorded plan.lines
+    → DidWriting (IsForLines plan.lines) (most_of plan.lines) old new (BootedOutcome plan entropy result) → AllOnlyRead plan.lines
     → old.held ≡ Some h → Calm old new → Fits plan world h
     → IfErr result (λ fault. fault.why ≡ Memory) × (new.held ≡ Some h)

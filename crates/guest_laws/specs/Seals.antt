@@ -13,7 +13,7 @@ use Rattle.instance_image.specs.Staying.{HoldsRecords}
 use Rattle.guest_plan.specs.Plans.{Known}
 use Rattle.guest_plan.specs.Spelling.{IsPlan}
 use Rattle.guest_plan.specs.declared.plan.PlanLine.TheVariants as line
-use Rattle.guest_boot.specs.Booting.{AreUnrecorded}
+use Rattle.guest_boot.specs.Booting.{AllOnlyRead}
 use Rattle.guest_rules.specs.Machine.{Instance, Setting, World, moment, Turn, Request, message_of, read_of, get_of, put_of, request_of, image_with}
 use Rattle.guest_rules.specs.Run.{AreSealed, calls_of}
 use Rattle.guest_cli.specs.declared.session.SessionEnd.{SessionEnd}
@@ -45,7 +45,7 @@ HoldsKnown (Some i) parts h sealings = HoldsRecords h (image_with i parts) i.sec
 abbrev pub HonestHostsForgeNone : Type 0
 HonestHostsForgeNone = (files : Option Files) (plan store entropy : List ℕ) (old new : Streams) (ended : Result (Unit {0}) SessionEnd)
     (s : SatOver files plan store entropy old new ended) (turns : List Turn) (world : World) (earlier : List Sealing)
-    → AreUnrecorded s.made.planned.plan.lines
+    → AllOnlyRead s.made.planned.plan.lines
     → (r : Recorded (setting_of s.made.planned.plan s.opened) (first_state s.made.planned.plan s.opened) (sealings_of s.opened) s.booted s.mid s.calls s.records s.finish turns)
     → world.sealed ≡ Some earlier → FitsInstance s.made.planned.plan s.made.stock.held
     → HoldsKnown (setting_of s.made.planned.plan s.opened).image (first_state s.made.planned.plan s.opened).parts s.made.stock.held earlier
@@ -57,7 +57,7 @@ HonestHostsForgeNone = (files : Option Files) (plan store entropy : List ℕ) (o
 abbrev pub GetsCauseNone : Type 0
 GetsCauseNone = (files : Option Files) (plan store entropy : List ℕ) (old new : Streams) (ended : Result (Unit {0}) SessionEnd)
     (s : SatOver files plan store entropy old new ended) (turns : List Turn) (earlier : List Sealing)
-    → AreUnrecorded s.made.planned.plan.lines
+    → AllOnlyRead s.made.planned.plan.lines
     → (r : Recorded (setting_of s.made.planned.plan s.opened) (first_state s.made.planned.plan s.opened) (sealings_of s.opened) s.booted s.mid s.calls s.records s.finish turns)
     → FitsInstance s.made.planned.plan s.made.stock.held
     → HoldsKnown (setting_of s.made.planned.plan s.opened).image (first_state s.made.planned.plan s.opened).parts s.made.stock.held earlier

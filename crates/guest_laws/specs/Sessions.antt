@@ -18,7 +18,7 @@ use Rattle.guest_plan.specs.Plans.{Known}
 use Rattle.guest_plan.specs.declared.plan.PlanLine.{PlanLine}
 use Rattle.guest_plan.specs.declared.plan.PlanLine.TheVariants as line
 use Rattle.guest_boot.specs.declared.faults.BootFault.{BootFault}
-use Rattle.guest_boot.specs.Booting.{AreUnrecorded}
+use Rattle.guest_boot.specs.Booting.{AllOnlyRead}
 use Rattle.guest_rules.specs.Machine.{Instance, Setting, World, nowhere, Moment, moment, Turn, ItemRead, Request, message_of, read_of, get_of, put_of, request_of, image_with}
 use Rattle.guest_rules.specs.Step.{Step}
 use Rattle.guest_rules.specs.Run.{IsEarly, IsWorld, AreSealed, calls_of}
@@ -145,7 +145,7 @@ RunKept Imaged g old (turn ∷ turns) new = (mid : Moment) × IsEarly old.told.h
 -- status 8 doesn't come.
 abbrev pub BootsAreServed : Type 0
 BootsAreServed = (files : Option Files) (plan store entropy : List ℕ) (fault : BootFault) (world : World)
-    (u : UnbootedOver files plan store entropy fault) → AreUnrecorded u.made.planned.plan.lines → Fits u.made.planned.plan world u.made.stock.held → ⊥
+    (u : UnbootedOver files plan store entropy fault) → AllOnlyRead u.made.planned.plan.lines → Fits u.made.planned.plan world u.made.stock.held → ⊥
 
 -- A session of `serve`, over the host that a store list makes, whose turns these are. It is a run in which each read of an item, and
 -- each READ of a file, that the host holds at first as its line needs it has its defined reply: its bytes, or 22 where too many were
@@ -155,7 +155,7 @@ BootsAreServed = (files : Option Files) (plan store entropy : List ℕ) (fault :
 abbrev pub SessionsAreServed : Type 0
 SessionsAreServed = (files : Option Files) (plan store entropy : List ℕ) (old new : Streams) (ended : Result (Unit {0}) SessionEnd)
     (s : SatOver files plan store entropy old new ended) (turns : List Turn) (world : World)
-    → AreUnrecorded s.made.planned.plan.lines
+    → AllOnlyRead s.made.planned.plan.lines
     → (r : Recorded (setting_of s.made.planned.plan s.opened) (first_state s.made.planned.plan s.opened) (sealings_of s.opened) s.booted s.mid s.calls s.records s.finish turns)
     → IsWorld (setting_of s.made.planned.plan s.opened) (first_state s.made.planned.plan s.opened) world (heard_of s.booted ++ heard_of (calls_of turns))
     → AreSealed (setting_of s.made.planned.plan s.opened) world (moment (first_state s.made.planned.plan s.opened) s.mid (heard_of s.booted) (sealings_of s.opened)) turns
@@ -170,7 +170,7 @@ SessionsAreServed = (files : Option Files) (plan store entropy : List ℕ) (old 
 abbrev pub RecordsAreServed : Type 0
 RecordsAreServed = (files : Option Files) (plan store entropy : List ℕ) (old new : Streams) (ended : Result (Unit {0}) SessionEnd)
     (s : SatOver files plan store entropy old new ended) (turns : List Turn)
-    → AreUnrecorded s.made.planned.plan.lines
+    → AllOnlyRead s.made.planned.plan.lines
     → (r : Recorded (setting_of s.made.planned.plan s.opened) (first_state s.made.planned.plan s.opened) (sealings_of s.opened) s.booted s.mid s.calls s.records s.finish turns)
     → RunKept (FitsInstance s.made.planned.plan s.made.stock.held) (setting_of s.made.planned.plan s.opened)
     (moment (first_state s.made.planned.plan s.opened) s.mid (heard_of s.booted) (sealings_of s.opened)) turns
@@ -181,7 +181,7 @@ RecordsAreServed = (files : Option Files) (plan store entropy : List ℕ) (old n
 abbrev pub HonestHostsCauseNone : Type 0
 HonestHostsCauseNone = (files : Option Files) (plan store entropy : List ℕ) (old new : Streams) (ended : Result (Unit {0}) SessionEnd)
     (s : SatOver files plan store entropy old new ended) (turns : List Turn) (world : World)
-    → AreUnrecorded s.made.planned.plan.lines
+    → AllOnlyRead s.made.planned.plan.lines
     → (r : Recorded (setting_of s.made.planned.plan s.opened) (first_state s.made.planned.plan s.opened) (sealings_of s.opened) s.booted s.mid s.calls s.records s.finish turns)
     → IsWorld (setting_of s.made.planned.plan s.opened) (first_state s.made.planned.plan s.opened) world (heard_of s.booted ++ heard_of (calls_of turns))
     → AreSealed (setting_of s.made.planned.plan s.opened) world (moment (first_state s.made.planned.plan s.opened) s.mid (heard_of s.booted) (sealings_of s.opened)) turns

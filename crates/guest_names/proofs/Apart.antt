@@ -6,6 +6,7 @@ use Rattle.std.specs.List.{AllByRecursion, list_any, list_all}
 use Rattle.std.specs.Str.{bytes_eq}
 use Rattle.std.proofs.lemmas.List.{length-append}
 use Rattle.std.proofs.lemmas.Bool.Decides.{nat_tests}
+use Rattle.mg_base.specs.declared.values.Digest.{Digest}
 use Rattle.text_lines.specs.declared.kinds.PlanKind.{PlanKind}
 use Rattle.text_lines.specs.Values.{is_name, is_name_byte}
 use Rattle.text_lines.specs.Spelling.{collect}
@@ -96,20 +97,29 @@ more_differ None p files all one = tt
 more_differ (Some f) None files all one = all
 more_differ (Some f) (Some g) files all one = (one f g refl refl, all)
 
+-- the name and the number that a line gives a file
+named_file : List ℕ → ℕ → Option Digest → NamedFile
+named_file name number digest = record { name = name; number = number; digest = digest }
+
+names_differ : (name other : List ℕ) (file number : ℕ) (d e : Option Digest) (f g : NamedFile) → ((number == file) || bytes_eq other name || false) ≡ false → f ≡ named_file name file d → g ≡ named_file other number e → Differs f g
+names_differ name other file number d e f g off one two = rw (one, two) (differs (named_file name file d) (named_file other number e) (number == file) (bytes_eq other name) false off refl refl)
+
 two_differ : (l m : PlanLine) → clash m l ≡ false → (f g : NamedFile) → file_in l ≡ Some f → file_in m ≡ Some g → Differs f g
-two_differ (line.File name file digest) (line.File other number root) off f g is are =
-    let one : f ≡ record { name = name; number = file; digest = digest } = cc in
-    let two : g ≡ record { name = other; number = number; digest = root } = cc in
-    rw (one, two) (differs _ _ (number == file) (bytes_eq other name) false off refl refl)
+two_differ (line.File name file digest) (line.File other number root) off f g is are = names_differ name other file number (Some digest) (Some root) f g off cc cc
+two_differ (line.File name file digest) (line.Write other number) off f g is are = names_differ name other file number (Some digest) None f g off cc cc
 two_differ (line.File name file digest) (line.Instance disk part) off f g is are = absurd cc
 two_differ (line.File name file digest) (line.Blob at measure) off f g is are = absurd cc
 two_differ (line.File name file digest) (line.Apk disk apk idsig how) off f g is are = absurd cc
-two_differ (line.File name file digest) (line.Write other at) off f g is are = absurd cc
 two_differ (line.File name file digest) (line.WriteDir other at) off f g is are = absurd cc
+two_differ (line.Write name file) (line.File other number root) off f g is are = names_differ name other file number None (Some root) f g off cc cc
+two_differ (line.Write name file) (line.Write other number) off f g is are = names_differ name other file number None None f g off cc cc
+two_differ (line.Write name file) (line.Instance disk part) off f g is are = absurd cc
+two_differ (line.Write name file) (line.Blob at measure) off f g is are = absurd cc
+two_differ (line.Write name file) (line.Apk disk apk idsig how) off f g is are = absurd cc
+two_differ (line.Write name file) (line.WriteDir other at) off f g is are = absurd cc
 two_differ (line.Instance disk part) m off f g is are = absurd cc
 two_differ (line.Blob at measure) m off f g is are = absurd cc
 two_differ (line.Apk disk apk idsig how) m off f g is are = absurd cc
-two_differ (line.Write name at) m off f g is are = absurd cc
 two_differ (line.WriteDir name at) m off f g is are = absurd cc
 
 all_differ : (l : PlanLine) (lines : List PlanLine) → AllByRecursion (λ m. clash m l ≡ false) lines → DifferFrom (file_in l) (files_in lines)
@@ -152,7 +162,7 @@ short_line (line.File name file digest) files s rest = (short_name name s.0, res
 short_line (line.Instance disk part) files s rest = rest
 short_line (line.Blob at measure) files s rest = rest
 short_line (line.Apk disk apk idsig how) files s rest = rest
-short_line (line.Write name at) files s rest = rest
+short_line (line.Write name at) files s rest = (short_name name s.0, rest)
 short_line (line.WriteDir name at) files s rest = rest
 
 short : (lines : List PlanLine) → AreServed lines → AreShort (files_in lines)

@@ -3,14 +3,16 @@ use Rattle.std.proofs.Common.{◌≡◌, ℕ, zero, suc, Bool, true, false, cond
 use Rattle.std.specs.Prelude.{nat_eq, slice_get, IsSome, ◌⊎◌, ◌==◌}
 use Rattle.std.specs.List.{AllByRecursion}
 use Rattle.std.specs.Ordering.{nat_cmp, is_eq, match_ordering}
-use Rattle.std.specs.BTreeMap.{insert_entry}
+use Rattle.std.specs.Map.{lookup}
+use Rattle.std.specs.BTreeMap.{insert_entry, is_at}
 use Rattle.std.proofs.lemmas.Grind.{common_steps}
 use Rattle.std.proofs.lemmas.Bool.Decides.{nat_tests}
 use Rattle.host_traits.specs.Told.{Exchanges}
 use Rattle.ro_file.specs.Files.{MeasuredFile, IsReadable}
 use Rattle.ro_file.specs.Opening.{WasOpened}
-use Rattle.fuse_server.specs.State.{Files, file_at}
-use Rattle.guest_names.specs.Standing.{NamedFile, all_standing, digest_among}
+use Rattle.mg_base.specs.declared.values.Digest.{Digest}
+use Rattle.fuse_server.specs.State.{Files, WritableFile, Writables, file_at, writable_at, empty_file}
+use Rattle.guest_names.specs.Standing.{NamedFile, read_if, read_only, all_standing, emptied_by, all_emptied, digest_among}
 use Rattle.guest_names.specs.Planted.{stood_at, Differs, AreDifferent}
 
 -- ---- a file more at a number
@@ -21,37 +23,58 @@ key_is n k = grind (arith, common_steps)
 eq_of : (a b : ℕ) → nat_eq a b ≡ true → a ≡ b
 eq_of a b e = grind (arith, nat_tests)
 
-equal : (files : Files) (k n : ℕ) (e : ℕ × MeasuredFile) (o : MeasuredFile) (b : Bool) → nat_eq n k ≡ b → nat_eq n e.0 ≡ b
-    → cond (nat_eq n e.0) (Some o) (file_at files n) ≡ cond b (Some o) (cond (nat_eq n e.0) (Some e.1) (file_at files n))
-equal files k n e o true p q = rw q refl
-equal files k n e o false p q = rw q refl
+module _ {X : Type 0} where
+  at : List (ℕ × X) → ℕ → Option X
+  at files n = lookup (is_at (nat_cmp n)) files
 
-greater : (files : Files) (k n : ℕ) (e : ℕ × MeasuredFile) (o : MeasuredFile) (b : Bool) → nat_eq n k ≡ b → (b ≡ true → nat_eq n e.0 ≡ false)
-    → cond (nat_eq n e.0) (Some e.1) (cond b (Some o) (file_at files n)) ≡ cond b (Some o) (cond (nat_eq n e.0) (Some e.1) (file_at files n))
-greater files k n e o true p other = rw (other refl) refl
-greater files k n e o false p other = refl
+  equal : (files : List (ℕ × X)) (k n : ℕ) (e : ℕ × X) (o : X) (b : Bool) → nat_eq n k ≡ b → nat_eq n e.0 ≡ b
+      → cond (nat_eq n e.0) (Some o) (at files n) ≡ cond b (Some o) (cond (nat_eq n e.0) (Some e.1) (at files n))
+  equal files k n e o true p q = rw q refl
+  equal files k n e o false p q = rw q refl
 
-inserted_by : (files : Files) (k n : ℕ) (e : ℕ × MeasuredFile) (o : MeasuredFile) (r : Ordering) → nat_cmp k e.0 ≡ r → file_at (insert_entry nat_cmp files k o) n ≡ cond (nat_eq n k) (Some o) (file_at files n)
-    → file_at (match_ordering r ((k, o) ∷ e ∷ files) ((e.0, o) ∷ files) (e ∷ insert_entry nat_cmp files k o)) n ≡ cond (nat_eq n k) (Some o) (file_at (e ∷ files) n)
-inserted_by files k n e o Less c rest = rw (key_is n k) refl
-inserted_by files k n e o Equal c rest =
-    let same : nat_eq n e.0 ≡ nat_eq n k = grind (arith, common_steps) in
-    rw (key_is n e.0) (equal files k n e o (nat_eq n k) refl same)
-inserted_by files k n e o Greater c rest =
-    let apart : nat_eq n k ≡ true → nat_eq n e.0 ≡ false = λ p. grind (arith, common_steps) in
-    rw (key_is n e.0, rest) (greater files k n e o (nat_eq n k) refl apart)
+  greater : (files : List (ℕ × X)) (k n : ℕ) (e : ℕ × X) (o : X) (b : Bool) → nat_eq n k ≡ b → (b ≡ true → nat_eq n e.0 ≡ false)
+      → cond (nat_eq n e.0) (Some e.1) (cond b (Some o) (at files n)) ≡ cond b (Some o) (cond (nat_eq n e.0) (Some e.1) (at files n))
+  greater files k n e o true p other = rw (other refl) refl
+  greater files k n e o false p other = refl
+
+  inserted_by : (files : List (ℕ × X)) (k n : ℕ) (e : ℕ × X) (o : X) (r : Ordering) → nat_cmp k e.0 ≡ r → at (insert_entry nat_cmp files k o) n ≡ cond (nat_eq n k) (Some o) (at files n)
+      → at (match_ordering r ((k, o) ∷ e ∷ files) ((e.0, o) ∷ files) (e ∷ insert_entry nat_cmp files k o)) n ≡ cond (nat_eq n k) (Some o) (at (e ∷ files) n)
+  inserted_by files k n e o Less c rest = rw (key_is n k) refl
+  inserted_by files k n e o Equal c rest =
+      let same : nat_eq n e.0 ≡ nat_eq n k = grind (arith, common_steps) in
+      rw (key_is n e.0) (equal files k n e o (nat_eq n k) refl same)
+  inserted_by files k n e o Greater c rest =
+      let apart : nat_eq n k ≡ true → nat_eq n e.0 ≡ false = λ p. grind (arith, common_steps) in
+      rw (key_is n e.0, rest) (greater files k n e o (nat_eq n k) refl apart)
+
+  pub inserted : (files : List (ℕ × X)) (k n : ℕ) (o : X) → lookup (is_at (nat_cmp n)) (insert_entry nat_cmp files k o) ≡ cond (nat_eq n k) (Some o) (lookup (is_at (nat_cmp n)) files)
+  inserted [] k n o = rw (key_is n k) refl
+  inserted (e ∷ files) k n o = inserted_by files k n e o (nat_cmp k e.0) refl (inserted files k n o)
+
+  some_by : (b : Bool) (o : X) (x : Option X) → IsSome x → IsSome (cond b (Some o) x)
+  some_by true o x s = refl
+  some_by false o x s = s
+
+  -- one more leaves the others there, and is there itself
+  pub more_stays : (files : List (ℕ × X)) (k n : ℕ) (o : X) → IsSome (lookup (is_at (nat_cmp n)) files) → IsSome (lookup (is_at (nat_cmp n)) (insert_entry nat_cmp files k o))
+  more_stays files k n o s = subst IsSome (sym (inserted files k n o)) (some_by (nat_eq n k) o (at files n) s)
+
+  pub more_stands : (files : List (ℕ × X)) (k : ℕ) (o : X) → IsSome (lookup (is_at (nat_cmp k)) (insert_entry nat_cmp files k o))
+  more_stands files k o =
+      let on : nat_eq k k ≡ true = grind (arith, nat_tests) in
+      let here : at (insert_entry nat_cmp files k o) k ≡ Some o = inserted files k k o ∙ rw on refl in
+      subst IsSome (sym here) refl
 
 pub file_inserted : (files : Files) (k n : ℕ) (o : MeasuredFile) → file_at (insert_entry nat_cmp files k o) n ≡ cond (nat_eq n k) (Some o) (file_at files n)
-file_inserted [] k n o = rw (key_is n k) refl
-file_inserted (e ∷ files) k n o = inserted_by files k n e o (nat_cmp k e.0) refl (file_inserted files k n o)
+file_inserted files k n o = inserted files k n o
 
 -- ---- how files were opened
 
--- an opened file is the host's of this number, by this digest
+-- an opened file is the host's of this number, by the digest of one that is only read
 pub record WasMade (heard : Exchanges) (g : NamedFile) (f : MeasuredFile) : Type 0 where
   pub number : f.file ≡ g.number
-  pub digest : f.digest ≡ g.digest
-  pub opened : WasOpened g.number g.digest heard f
+  pub digest : g.digest ≡ Some f.digest
+  pub opened : WasOpened g.number f.digest heard f
   pub readable : IsReadable f
 
 -- one after another
@@ -64,7 +87,7 @@ AreMade heard (g ∷ files) (o ∷ opened) = WasMade heard g o × AreMade heard 
 -- a file stands at a number: it was opened as the plan's first file of this number
 pub record IsFound (heard : Exchanges) (files : List NamedFile) (n : ℕ) (f : MeasuredFile) : Type 0 where
   pub file : NamedFile
-  pub among : digest_among files n ≡ Some file.digest
+  pub among : digest_among files n ≡ file.digest
   pub number : file.number ≡ n
   pub made : WasMade heard file f
 
@@ -76,7 +99,7 @@ other_found : (heard : Exchanges) (g : NamedFile) (files : List NamedFile) (n : 
 other_found heard g files n f true e all w =
     let same : g.number ≡ n = eq_of g.number n e in
     let none : digest_among files n ≡ None = subst (λ (k : ℕ). digest_among files k ≡ None) same (none_among g files all) in
-    let some = w.among in
+    let some : digest_among files n ≡ Some f.digest = w.among ∙ w.made.digest in
     absurd cc
 other_found heard g files n f false e all w = record { file = w.file; among = rw e w.among; number = w.number; made = w.made }
 
@@ -100,15 +123,10 @@ found heard acc (g ∷ files) (o ∷ opened) n f made d is = elim (found heard (
 
 -- ---- each named file stands
 
-some_by : (b : Bool) (o : MeasuredFile) (x : Option MeasuredFile) → IsSome x → IsSome (cond b (Some o) x)
-some_by true o x s = refl
-some_by false o x s = s
-
 stays : (acc : Files) (files : List NamedFile) (opened : List MeasuredFile) (n : ℕ) → IsSome (file_at acc n) → IsSome (file_at (all_standing acc files opened) n)
 stays acc [] opened n s = s
 stays acc (g ∷ files) [] n s = s
-stays acc (g ∷ files) (o ∷ opened) n s =
-    stays (insert_entry nat_cmp acc g.number o) files opened n (subst IsSome (sym (file_inserted acc g.number n o)) (some_by (nat_eq n g.number) o (file_at acc n) s))
+stays acc (g ∷ files) (o ∷ opened) n s = stays (insert_entry nat_cmp acc g.number o) files opened n (more_stays acc g.number n o s)
 
 pub stands : (acc : Files) (files : List NamedFile) (opened : List MeasuredFile) (k : ℕ) (g : NamedFile) → length opened ≡ length files → slice_get files k ≡ Some g
     → IsSome (file_at (all_standing acc files opened) g.number)
@@ -116,10 +134,8 @@ stands acc [] opened k g len at = absurd cc
 stands acc (h ∷ files) [] k g len at = absurd (omega arith)
 stands acc (h ∷ files) (o ∷ opened) zero g len at =
     let same : h ≡ g = cc in
-    let on : nat_eq h.number h.number ≡ true = grind (arith, nat_tests) in
-    let here : file_at (insert_entry nat_cmp acc h.number o) h.number ≡ Some o = file_inserted acc h.number h.number o ∙ rw on refl in
     subst (λ (x : NamedFile). IsSome (file_at (all_standing (insert_entry nat_cmp acc h.number o) files opened) x.number)) same
-    (stays (insert_entry nat_cmp acc h.number o) files opened h.number (subst IsSome (sym here) refl))
+    (stays (insert_entry nat_cmp acc h.number o) files opened h.number (more_stands acc h.number o))
 stands acc (h ∷ files) (o ∷ opened) (suc k) g len at = stands (insert_entry nat_cmp acc h.number o) files opened k g (omega arith) at
 
 -- ---- one file more
@@ -130,3 +146,76 @@ standing_push acc [] [] f = refl
 standing_push acc [] (o ∷ opened) f = refl
 standing_push acc (g ∷ files) [] f = refl
 standing_push acc (g ∷ files) (o ∷ opened) f = standing_push (insert_entry nat_cmp acc g.number o) files opened f
+
+-- ---- the files that are written
+
+empty_stays : (acc : Writables) (number n : ℕ) (o : Option Digest) → IsSome (writable_at acc n) → IsSome (writable_at (emptied_by acc number o) n)
+empty_stays acc number n None s = more_stays acc number n (empty_file number) s
+empty_stays acc number n (Some digest) s = s
+
+empties_stay : (acc : Writables) (files : List NamedFile) (n : ℕ) → IsSome (writable_at acc n) → IsSome (writable_at (all_emptied acc files) n)
+empties_stay acc [] n s = s
+empties_stay acc (g ∷ files) n s = empties_stay (emptied_by acc g.number g.digest) files n (empty_stays acc g.number n g.digest s)
+
+empty_stands : (acc : Writables) (number : ℕ) (o : Option Digest) → o ≡ None → IsSome (writable_at (emptied_by acc number o) number)
+empty_stands acc number None e = more_stands acc number (empty_file number)
+empty_stands acc number (Some digest) e = absurd cc
+
+-- each named file that is written stands
+pub empties_stand : (acc : Writables) (files : List NamedFile) (k : ℕ) (g : NamedFile) → slice_get files k ≡ Some g → g.digest ≡ None → IsSome (writable_at (all_emptied acc files) g.number)
+empties_stand acc [] k g at none = absurd cc
+empties_stand acc (h ∷ files) zero g at none =
+    let same : h ≡ g = cc in
+    let empty : h.digest ≡ None = ap (λ (x : NamedFile). x.digest) same ∙ none in
+    subst (λ (x : NamedFile). IsSome (writable_at (all_emptied (emptied_by acc h.number h.digest) files) x.number)) same
+    (empties_stay (emptied_by acc h.number h.digest) files h.number (empty_stands acc h.number h.digest empty))
+empties_stand acc (h ∷ files) (suc k) g at none = empties_stand (emptied_by acc h.number h.digest) files k g at none
+
+one_emptied : (acc : Writables) (number n : ℕ) (o : Option Digest) (f : WritableFile) → writable_at (emptied_by acc number o) n ≡ Some f → (f ≡ empty_file n) ⊎ (writable_at acc n ≡ Some f)
+one_emptied acc number n (Some digest) f is = inr is
+one_emptied acc number n None f is = by (nat_eq n number) refl (sym (inserted acc number n (empty_file number)) ∙ is) where
+  by : (b : Bool) → nat_eq n number ≡ b → cond b (Some (empty_file number)) (writable_at acc n) ≡ Some f → (f ≡ empty_file n) ⊎ (writable_at acc n ≡ Some f)
+  by true e here = let same : empty_file number ≡ f = cc in inl (sym same ∙ ap empty_file (sym (eq_of n number e)))
+  by false e here = inr here
+
+-- each file that stands is empty, at its number
+pub all_empty : (acc : Writables) (files : List NamedFile) (n : ℕ) (f : WritableFile) → writable_at (all_emptied acc files) n ≡ Some f → (f ≡ empty_file n) ⊎ (writable_at acc n ≡ Some f)
+all_empty acc [] n f is = inr is
+all_empty acc (g ∷ files) n f is = elim (all_empty (emptied_by acc g.number g.digest) files n f is) [
+  | inl empty ↦ inl empty
+  | inr here ↦ one_emptied acc g.number n g.digest f here
+]
+
+-- ---- those that are only read
+
+all_read : (P : NamedFile → Type 0) (g : NamedFile) (o : Option Digest) (files : List NamedFile) → P g → AllByRecursion P files → AllByRecursion P (read_if g o files)
+all_read P g None files one all = all
+all_read P g (Some digest) files one all = (one, all)
+
+all_only : (P : NamedFile → Type 0) (files : List NamedFile) → AllByRecursion P files → AllByRecursion P (read_only files)
+all_only P [] all = tt
+all_only P (g ∷ files) all = all_read P g g.digest (read_only files) all.0 (all_only P files all.1)
+
+read_differ : (g : NamedFile) (o : Option Digest) (files : List NamedFile) → AllByRecursion (Differs g) files → AreDifferent files → AreDifferent (read_if g o files)
+read_differ g None files all d = d
+read_differ g (Some digest) files all d = (all, d)
+
+pub only_differ : (files : List NamedFile) → AreDifferent files → AreDifferent (read_only files)
+only_differ [] d = tt
+only_differ (g ∷ files) d = read_differ g g.digest (read_only files) (all_only (Differs g) files d.0) (only_differ files d.1)
+
+place_read : (h : NamedFile) (o : Option Digest) (files : List NamedFile) (g : NamedFile) (j : ℕ) → slice_get files j ≡ Some g → (k : ℕ) × (slice_get (read_if h o files) k ≡ Some g)
+place_read h None files g j at = (j, at)
+place_read h (Some digest) files g j at = (suc j, at)
+
+first_read : (h g : NamedFile) (o : Option Digest) (digest : Digest) (files : List NamedFile) → o ≡ Some digest → h ≡ g → (k : ℕ) × (slice_get (read_if h o files) k ≡ Some g)
+first_read h g None digest files e same = absurd cc
+first_read h g (Some d) digest files e same = (0, ap (λ (x : NamedFile). Some x) same)
+
+-- each of them has a place among them
+pub place_only : (files : List NamedFile) (k : ℕ) (g : NamedFile) (digest : Digest) → slice_get files k ≡ Some g → g.digest ≡ Some digest → (j : ℕ) × (slice_get (read_only files) j ≡ Some g)
+place_only [] k g digest at e = absurd cc
+place_only (h ∷ files) zero g digest at e =
+    let same : h ≡ g = cc in
+    first_read h g h.digest digest (read_only files) (ap (λ (x : NamedFile). x.digest) same ∙ e) same
+place_only (h ∷ files) (suc k) g digest at e = let w = place_only files k g digest at e in place_read h h.digest (read_only files) g w.0 w.1

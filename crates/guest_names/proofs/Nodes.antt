@@ -9,11 +9,11 @@ use Rattle.std.specs.FinMap as table
 use Rattle.std.proofs.lemmas.List.{length-append}
 use Rattle.std.proofs.lemmas.Bool.Decides.{nat_tests}
 use Rattle.authfs_dirs.specs.declared.kind.Kind.{Kind}
-use Rattle.authfs_dirs.specs.declared.kind.Kind.TheVariants.{Dir, ReadOnly}
+use Rattle.authfs_dirs.specs.declared.kind.Kind.TheVariants.{Dir}
 use Rattle.authfs_dirs.specs.Names.{Entry, entry, Node, Names, node_at, named, named_in, new_node, with_name, changed, at_first, may_plant, planted}
 use Rattle.authfs_dirs.proofs.SeenLemmas.{turned, same_number}
 use Rattle.authfs_dirs.proofs.TreeLemmas.{get_changed}
-use Rattle.guest_names.specs.Standing.{NamedFile, all_planted}
+use Rattle.guest_names.specs.Standing.{NamedFile, kind_of, all_planted}
 use Rattle.guest_names.specs.Planted.{Differs, AreDifferent}
 
 -- the entries of files, from a cookie and a node on
@@ -25,7 +25,7 @@ abbrev pub root_of : List NamedFile → Node
 root_of files = record { kind = Dir None; lookups = 0; pins = 0; parent = None; entries = entries_from 3 2 files; cookie = length files + 3 }
 
 abbrev pub node_of : NamedFile → Node
-node_of f = new_node (Some 1) (ReadOnly f.number) 0
+node_of f = new_node (Some 1) (kind_of f) 0
 
 -- a node of one of the files
 pub record IsOf (files : List NamedFile) (n : ℕ) (x : Node) : Type 0 where
@@ -96,10 +96,10 @@ place_at (x ∷ files) rest f = place_at files rest f
 
 module _ (s : Names) (files : List NamedFile) (f : NamedFile) (p : ArePlanted s files) where
   abbrev new : Names
-  new = planted s f.name (ReadOnly f.number)
+  new = planted s f.name (kind_of f)
 
   at_number : (q : ℕ) (b c : Bool) → nat_eq (s.last + 1) q ≡ b → nat_eq 1 q ≡ c → node_at new q ≡ cond b (Some (node_of f)) (cond c (option_map (with_name f.name (s.last + 1)) (node_at s 1)) (node_at s q))
-  at_number q b c e d = get_planted s f.name (ReadOnly f.number) q ∙ rw (e, d) refl
+  at_number q b c e d = get_planted s f.name (kind_of f) q ∙ rw (e, d) refl
 
   new_root : node_at new 1 ≡ Some (root_of (files ++ f ∷ []))
   new_root =
@@ -128,9 +128,9 @@ module _ (s : Names) (files : List NamedFile) (f : NamedFile) (p : ArePlanted s 
   only_by n x false true e d is = inl (sym (same_number 1 n d))
   only_by n x false false e d is = older n x (p.only n x (sym (at_number n false false e d) ∙ is))
 
-  pub planted_more : ArePlanted (planted s f.name (ReadOnly f.number)) (files ++ f ∷ [])
+  pub planted_more : ArePlanted (planted s f.name (kind_of f)) (files ++ f ∷ [])
   planted_more = record {
-    last = last_planted s f.name (ReadOnly f.number) ∙ omega (arith, p.last, length-append files (f ∷ []));
+    last = last_planted s f.name (kind_of f) ∙ omega (arith, p.last, length-append files (f ∷ []));
     root = new_root;
     nodes = λ k g e. new_nodes k g (place_by files f g k e);
     only = λ n x e. only_by n x (nat_eq (s.last + 1) n) (nat_eq 1 n) refl refl e;
@@ -160,8 +160,8 @@ none_planted = record {
 pub planted_all : (s : Names) (done files : List NamedFile) → ArePlanted s done → ArePlanted (all_planted s files) (done ++ files)
 planted_all s done [] p = subst (ArePlanted s) (sym (append-nil done)) p
 planted_all s done (f ∷ files) p =
-    subst (ArePlanted (all_planted (planted s f.name (ReadOnly f.number)) files)) (append_assoc done (f ∷ []) files)
-    (planted_all (planted s f.name (ReadOnly f.number)) (done ++ f ∷ []) files (planted_more s done f p))
+    subst (ArePlanted (all_planted (planted s f.name (kind_of f)) files)) (append_assoc done (f ∷ []) files)
+    (planted_all (planted s f.name (kind_of f)) (done ++ f ∷ []) files (planted_more s done f p))
 
 pub planted_from_first : (files : List NamedFile) → ArePlanted (all_planted at_first files) files
 planted_from_first files = planted_all at_first [] files none_planted

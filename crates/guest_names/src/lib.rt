@@ -4,5 +4,5 @@
 mod laws;
 mod planting;
 
-pub use crate::laws::{files_are_opened, names_are_found, server_is_sound};
+pub use crate::laws::{files_are_opened, names_are_found, server_is_sound, writables_are_empty};
 pub use crate::planting::plant_lines;

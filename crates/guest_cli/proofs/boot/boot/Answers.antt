@@ -4,11 +4,8 @@ use Rattle.guest_boot.proofs.Recording.{did_as, did_reading}
 use Rattle.guest_boot.specs.Booting.{means_of}
 use Rattle.guest_names.proofs.Making.{counted}
 use Rattle.guest_plan.specs.Plans.{known}
-use Rattle.guest_cli.proofs.Booting.{plan_built, none_done}
+use Rattle.guest_cli.proofs.Booting.{none_done}
 use Rattle.guest_cli.proofs.boot.boot.Goals as goal
-
-pub open_lines-requires-clause-built : goal.open_lines-requires-clause-built
-open_lines-requires-clause-built g c = plan_built c.requires.plan.0 (known c.args.plan.now) c.requires.plan.1 c.requires.built
 
 pub returns-in-Err-open_lines-clause-booted : goal.returns-in-Err-open_lines-clause-booted
 returns-in-Err-open_lines-clause-booted g c =

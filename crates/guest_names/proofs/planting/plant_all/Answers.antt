@@ -1,7 +1,7 @@
 use Rattle.std.proofs.Common.{List, suc, length, take, drop, ap, refl, sym, subst, ◌∙◌}
 use Rattle.guest_boot.proofs.Runs.{split_at, take_next}
 use Rattle.guest_plan.specs.declared.plan.PlanLine.{PlanLine}
-use Rattle.guest_names.specs.Standing.{file_in, files_in}
+use Rattle.guest_names.specs.Standing.{file_in, files_in, read_only}
 use Rattle.guest_names.specs.Planted.{Planted, planted_of, stood_after, ArePlantable}
 use Rattle.guest_names.proofs.Stepping.{may_next, short_next, within_next, stepped}
 use Rattle.guest_names.proofs.planting.plant_all.Goals as goal
@@ -27,7 +27,7 @@ plant_line-requires-clause-within c =
     let l = c.index-lines-index.result in
     let cut = split_at c.args.lines.now i l c.loop-index-test.true c.index-lines-index.is in
     within_next (take i c.args.lines.now) (drop (suc i) c.args.lines.now) l (subst (λ (ls : List PlanLine). ArePlantable (files_in ls)) cut c.requires.plantable) (file_in l) refl
-    c.loop-index.to.stood (length c.args.opened.now) (ap (λ (p : Planted). p.stood) c.loop-index.invariant) (c.requires.opened ∙ ap (λ (ls : List PlanLine). length (files_in ls)) cut)
+    c.loop-index.to.stood (length c.args.opened.now) (ap (λ (p : Planted). p.stood) c.loop-index.invariant) (c.requires.opened ∙ ap (λ (ls : List PlanLine). length (read_only (files_in ls))) cut)
 
 pub loop-index-preserved : goal.loop-index-preserved
 loop-index-preserved c =
