@@ -37,7 +37,8 @@ pub(crate) fn init<'a>(
     max_readahead: u32,
     flags: u32,
 ) -> Result<Deed<'a>, Errno>
-    ensures row { IsDeed parts.old.writables.entries (init_aim (state_of parts.old) major minor max_readahead flags) result }
+    ensures row { IsDeed parts.old.writables.entries
+        (init_aim (state_of parts.old) major minor max_readahead flags) result }
     ensures no_call { NoCall result }
     ensures files { parts.new.writables ≡ parts.old.writables }
     ensures next { UnlessRefused (state_of parts.old) (state_of parts.new)
@@ -77,7 +78,8 @@ pub(crate) fn init<'a>(
 /// LOOKUP: one lookup more of the node that the name names, where it is answered.
 #[tactic(auto, unfolding(crate::specs::Aims::lookup_aim))]
 pub(crate) fn lookup<'a>(parts: &mut Parts, parent: u64, name: &[u8]) -> Result<Deed<'a>, Errno>
-    ensures row { IsDeed parts.old.writables.entries (lookup_aim (state_of parts.old) parent name.now) result }
+    ensures row { IsDeed parts.old.writables.entries
+        (lookup_aim (state_of parts.old) parent name.now) result }
     ensures no_call { NoCall result }
     ensures files { parts.new.writables ≡ parts.old.writables }
     ensures next { Becomes (state_of parts.old) parent (lookup name.now)
@@ -102,7 +104,8 @@ pub(crate) fn lookup<'a>(parts: &mut Parts, parent: u64, name: &[u8]) -> Result<
 /// GETATTR.
 #[tactic(auto, unfolding(crate::specs::Aims::getattr_aim))]
 pub(crate) fn getattr<'a>(parts: &Parts, node: u64) -> Result<Deed<'a>, Errno>
-    ensures row { IsDeed parts.now.writables.entries (getattr_aim (state_of parts.now) node) result }
+    ensures row { IsDeed parts.now.writables.entries
+        (getattr_aim (state_of parts.now) node) result }
     ensures no_call { NoCall result }
 {
     let kind = match live(parts, node) {
@@ -177,7 +180,8 @@ fn open_handle<'a>(parts: &mut Parts, node: u64) -> Result<Deed<'a>, Errno>
 
 // One handle less, where it is open and of this node.
 fn close_handle<'a>(parts: &mut Parts, node: u64, fh: u64) -> Result<Deed<'a>, Errno>
-    ensures row { IsDeed parts.old.writables.entries (held_aim (state_of parts.old) node fh) result }
+    ensures row { IsDeed parts.old.writables.entries
+        (held_aim (state_of parts.old) node fh) result }
     ensures no_call { NoCall result }
     ensures files { parts.new.writables ≡ parts.old.writables }
     ensures next { UnlessRefused (state_of parts.old) (state_of parts.new)
@@ -195,7 +199,8 @@ fn close_handle<'a>(parts: &mut Parts, node: u64, fh: u64) -> Result<Deed<'a>, E
 /// OPEN: one handle more.
 #[tactic(auto, unfolding(crate::specs::Aims::open_aim))]
 pub(crate) fn open<'a>(parts: &mut Parts, node: u64, flags: u32) -> Result<Deed<'a>, Errno>
-    ensures row { IsDeed parts.old.writables.entries (open_aim (state_of parts.old) node flags) result }
+    ensures row { IsDeed parts.old.writables.entries
+        (open_aim (state_of parts.old) node flags) result }
     ensures no_call { NoCall result }
     ensures files { parts.new.writables ≡ parts.old.writables }
     ensures next { Becomes (state_of parts.old) node (opening flags)
@@ -216,7 +221,8 @@ pub(crate) fn open<'a>(parts: &mut Parts, node: u64, flags: u32) -> Result<Deed<
 /// OPENDIR: one handle more.
 #[tactic(auto, unfolding(crate::specs::Aims::opendir_aim))]
 pub(crate) fn opendir<'a>(parts: &mut Parts, node: u64) -> Result<Deed<'a>, Errno>
-    ensures row { IsDeed parts.old.writables.entries (opendir_aim (state_of parts.old) node) result }
+    ensures row { IsDeed parts.old.writables.entries
+        (opendir_aim (state_of parts.old) node) result }
     ensures no_call { NoCall result }
     ensures files { parts.new.writables ≡ parts.old.writables }
     ensures next { Becomes (state_of parts.old) node opendir
@@ -356,7 +362,8 @@ pub(crate) fn fsync<'a>(parts: &Parts, node: u64, fh: u64) -> Result<Deed<'a>, E
 /// RELEASE: one handle less.
 #[tactic(auto, unfolding(crate::specs::Aims::handled_aim))]
 pub(crate) fn release<'a>(parts: &mut Parts, node: u64, fh: u64) -> Result<Deed<'a>, Errno>
-    ensures row { IsDeed parts.old.writables.entries (handled_aim (state_of parts.old) node fh) result }
+    ensures row { IsDeed parts.old.writables.entries
+        (handled_aim (state_of parts.old) node fh) result }
     ensures no_call { NoCall result }
     ensures files { parts.new.writables ≡ parts.old.writables }
     ensures next { Becomes (state_of parts.old) node (release fh)
@@ -372,7 +379,8 @@ pub(crate) fn release<'a>(parts: &mut Parts, node: u64, fh: u64) -> Result<Deed<
 /// RELEASEDIR: one handle less.
 #[tactic(auto, unfolding(crate::specs::Aims::releasedir_aim))]
 pub(crate) fn releasedir<'a>(parts: &mut Parts, node: u64, fh: u64) -> Result<Deed<'a>, Errno>
-    ensures row { IsDeed parts.old.writables.entries (releasedir_aim (state_of parts.old) node fh) result }
+    ensures row { IsDeed parts.old.writables.entries
+        (releasedir_aim (state_of parts.old) node fh) result }
     ensures no_call { NoCall result }
     ensures files { parts.new.writables ≡ parts.old.writables }
     ensures next { Becomes (state_of parts.old) node (releasedir fh)
@@ -395,7 +403,8 @@ pub(crate) fn readdir<'a>(
     size: u32,
 ) -> Result<Deed<'a>, Errno>
     requires { size ≤ 131072 }
-    ensures row { IsDeed parts.now.writables.entries (readdir_aim (state_of parts.now) node fh offset size) result }
+    ensures row { IsDeed parts.now.writables.entries
+        (readdir_aim (state_of parts.now) node fh offset size) result }
     ensures no_call { NoCall result }
 {
     match live_dir(parts, node) {
@@ -415,7 +424,8 @@ pub(crate) fn readdir<'a>(
 /// CREATE and MKDIR: why a name isn't added.
 #[tactic(auto, unfolding(crate::specs::Aims::add_aim))]
 pub(crate) fn add<'a>(parts: &Parts, parent: u64, name: &[u8]) -> Result<Deed<'a>, Errno>
-    ensures row { IsDeed parts.now.writables.entries (add_aim (state_of parts.now) parent name.now) result }
+    ensures row { IsDeed parts.now.writables.entries
+        (add_aim (state_of parts.now) parent name.now) result }
     ensures no_call { NoCall result }
 {
     match parts.dirs.may_add(parent, name) {
@@ -432,7 +442,8 @@ pub(crate) fn remove<'a>(
     name: &[u8],
     dir: bool,
 ) -> Result<Deed<'a>, Errno>
-    ensures row { IsDeed parts.now.writables.entries (remove_aim (state_of parts.now) parent name.now dir) result }
+    ensures row { IsDeed parts.now.writables.entries
+        (remove_aim (state_of parts.now) parent name.now dir) result }
     ensures no_call { NoCall result }
 {
     match parts.dirs.may_remove(parent, name, dir) {
