@@ -1,31 +1,29 @@
 -- The measure that a record keeps.
-use Rattle.std.proofs.Common.{Bool, true, false, cond, ◌≡◌, ℕ, ◌+◌, ◌<◌, ◌≤◌, ◌∙◌, List, [], ◌∷◌, ◌++◌, length, take, drop, Option, Some, None, Result, Ok, Err, refl, ap, sym, subst, inl, inr, arith, append_assoc, append-nil}
+use Rattle.std.proofs.Common.{Bool, true, false, ◌≡◌, ℕ, ◌<◌, ◌≤◌, ◌∙◌, List, [], ◌∷◌, ◌++◌, length, take, drop, Option, Some, None, Result, Ok, Err, refl, ap, sym, subst, inl, inr, arith, append_assoc, append-nil}
 use Rattle.std.specs.Prelude.{nat_lt, if◌then◌else◌, ◌⊎◌}
 use Rattle.std.proofs.lemmas.Bool.Decides.{nat_tests}
 use Rattle.mg_base.specs.declared.values.Span.{Span}
 use Rattle.host_traits.specs.declared.calls.Call.{Call}
-use Rattle.host_traits.specs.declared.calls.Said.TheVariants.{Bytes}
 use Rattle.host_traits.specs.Told.{Told, Exchanges}
 use Rattle.host_traits.specs.Did.{Did, DidBy, Trace, trace_of, reads}
-use Rattle.host_traits.proofs.Doing.{did_none, did_so, each_so, did_by_then, failed_later, short_later, scarce_later}
+use Rattle.host_traits.proofs.Doing.{did_none, did_so, each_so, did_by_then, failed_later, short_later}
 use Rattle.sha_tree.specs.declared.measure.Measure.{Measure}
 use Rattle.verity_path.specs.declared.device.Device.{Device}
-use Rattle.apk_verity.specs.declared.ApkFault.{ApkFault}
 use Rattle.apk_verity.specs.declared.ApkFault.TheVariants as apks
-use Rattle.apk_verity.specs.Opening.{Opening, opening, idsig_call, IsIdsigCall, OpenOutcome, opened}
+use Rattle.apk_verity.specs.Opening.{Opening, opening, IsIdsigCall}
 use Rattle.instance_image.specs.declared.faults.GetFault.{GetFault}
 use Rattle.instance_image.specs.declared.faults.GetFault.TheVariants as gets
 use Rattle.instance_image.specs.declared.faults.PutFault.{PutFault}
 use Rattle.instance_image.specs.declared.faults.PutFault.TheVariants as puts
 use Rattle.instance_image.specs.declared.values.Part.{Part}
 use Rattle.instance_image.specs.Records.{Kept, find_part, size_of, fits_in, fits, fitting, is_large, room_of}
-use Rattle.instance_image.specs.Access.{IsGetCall, GetOutcome, IsAnswered, HasNone, IsPutting, PutOutcome, IsPutCall, record_bytes, sealing_of}
+use Rattle.instance_image.specs.Access.{IsGetCall, GetOutcome, IsAnswered, IsPutting, PutOutcome, IsPutCall, record_bytes, sealing_of}
 use Rattle.guest_plan.specs.Spelling.{measure_text}
 use Rattle.guest_plan.specs.Measures.{IsMeasureText}
 use Rattle.guest_boot.specs.declared.faults.BootCause.{BootCause}
 use Rattle.guest_boot.specs.declared.faults.BootCause.TheVariants.{Gpt, NoPart, Apk, File, Image, Get, Put, NoEntropy, MeasureText, Failed, Short, Memory}
-use Rattle.guest_boot.specs.Recording.{Writing, IsWriting, ReadsOrWrites, DidWriting, IsQuiet, IsGetting, GivesMeasure, IsEmpty, Measured, MeasureFails, MeasureOutcome, measure_writing, measure_writings, writings_if, KeepFails, Keeps, KeepOutcome, get_cause, put_cause}
-use Rattle.guest_boot.specs.Booting.{Booted, Recorded, with_recorded, DeviceBoots, DeviceFails, DeviceOutcome, MeasureIsKept, MeasureIsIn, FoundBoots, OpeningFails, KeepingFails, FoundFails, FoundOutcome, MeasuredDone, IsForFound}
+use Rattle.guest_boot.specs.Recording.{Writing, IsWriting, ReadsOrWrites, DidWriting, IsQuiet, IsGetting, IsEmpty, Measured, MeasureFails, MeasureOutcome, measure_writing, measure_writings, writings_if, KeepFails, KeepOutcome, get_cause, put_cause}
+use Rattle.guest_boot.specs.Booting.{Booted, Recorded, with_recorded, DeviceBoots, DeviceFails, DeviceOutcome, MeasureIsIn, OpeningFails, FoundOutcome, MeasuredDone, IsForFound}
 use Rattle.guest_boot.proofs.Makes.{open_later}
 
 -- ---- work with wider words
@@ -158,7 +156,7 @@ module _ (k : Kept) (secret uuid : List ℕ) where
     named (gets.Short asked got) t h = h
     named (gets.Changed sector) t h = h
     named (gets.Tag tag) t h = h
-    named gets.Memory t h = inl h
+    named gets.Memory t h = h
 
     pub got_failed : (why : GetFault) → Did (IsGetCall k uuid) 1 a b (GetOutcome k secret uuid (Err why)) → Did IsGetting 1 a b (MeasureOutcome k secret uuid (Err (get_cause why)))
     got_failed why d = did_so _ _ 1 1 a b _ _ d getting (omega arith) (named why)
@@ -172,9 +170,6 @@ module _ (k : Kept) (secret uuid : List ℕ) where
 
       pub got_other : ((m : Measure) → ¬ IsMeasureText text m) → Did IsGetting 1 a b (MeasureOutcome k secret uuid (Err MeasureText))
       got_other none = did_so _ _ 1 1 a b _ _ d getting (omega arith) (λ t h. (text, h, none))
-
-      pub got_roomless : Did IsGetting 1 a b (MeasureOutcome k secret uuid (Err Memory))
-      got_roomless = did_so _ _ 1 1 a b _ _ d getting (omega arith) (λ t h. inr (text, h))
 
 -- ---- seen from before
 
@@ -238,8 +233,7 @@ module _ (a b c : Told) (y : Exchanges) (failed : ℕ) (le : a.faults ≤ b.faul
   measure_later k secret uuid (Get (gets.Changed sector)) h = get_later k secret uuid (Err (gets.Changed sector)) h
   measure_later k secret uuid (Get (gets.Tag tag)) h = get_later k secret uuid (Err (gets.Tag tag)) h
   measure_later k secret uuid MeasureText h = (h.0, get_later k secret uuid (Ok h.0) h.1, h.2)
-  measure_later k secret uuid Memory (inl h) = inl (get_later k secret uuid (Err gets.Memory) h)
-  measure_later k secret uuid Memory (inr h) = inr (h.0, get_later k secret uuid (Ok h.0) h.1)
+  measure_later k secret uuid Memory h = get_later k secret uuid (Err gets.Memory) h
   measure_later k secret uuid (Gpt f) h = h
   measure_later k secret uuid (NoPart name) h = h
   measure_later k secret uuid (Apk f) h = h

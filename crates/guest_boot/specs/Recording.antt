@@ -31,12 +31,12 @@ abbrev pub IsWriting : List Writing → Call → List ℕ → Type 0
 IsWriting [] call given = ⊥
 IsWriting (w ∷ writings) call given = ((call ≡ w.call) × (given ≡ w.given)) ⊎ IsWriting writings call given
 
--- a call reads, and hands nothing over, or is one of these writes
+-- a call is for the work and hands nothing over, or is one of these writes
 abbrev pub ReadsOrWrites : (Call → Type 0) → List Writing → Call → List ℕ → Type 0
 ReadsOrWrites IsFor writings call given = reads IsFor call given ⊎ IsWriting writings call given
 
--- Work that calls the host and may write: the calls that it made, failed ones too, each of which reads for it, or is one of these
--- writes; at most so many, and none after one that failed; and what came of them.
+-- Work that calls the host and may write: the calls that it made, failed ones too, each of which is for it and hands nothing over, or
+-- is one of these writes; at most so many, and none after one that failed; and what came of them.
 pub record DidWriting (IsFor : Call → Type 0) (most : ℕ) (old new : Told) (Outcome : List Writing → Trace → Type 0) : Type 0 where
   pub writings : List Writing
   pub did : DidBy (ReadsOrWrites IsFor writings) most old new (Outcome writings)
@@ -72,13 +72,13 @@ Measured k secret uuid own None = (own ≡ []) × IsEmpty k uuid
 Measured k secret uuid own (Some m) = GivesMeasure k secret uuid own m
 
 -- Why no measure was got: no partition has the UUID, and nothing was asked; or the record was not got; or its text is that of no
--- measure. Where there was no memory, none was heard, or a text.
+-- measure. Out of memory none was heard, so a text that is that of no measure is always told.
 abbrev pub MeasureFails : Kept → List ℕ → List ℕ → BootCause → Trace → Type 0
 MeasureFails k secret uuid (Get gets.NoRecord) t = IsQuiet t × (size_of (find_part k.parts uuid) ≡ None)
 MeasureFails k secret uuid (Get gets.Memory) t = ⊥
 MeasureFails k secret uuid (Get why) t = GetOutcome k secret uuid (Err why) t
 MeasureFails k secret uuid MeasureText t = (text : List ℕ) × GetOutcome k secret uuid (Ok text) t × ((m : Measure) → ¬ IsMeasureText text m)
-MeasureFails k secret uuid Memory t = GetOutcome k secret uuid (Err gets.Memory) t ⊎ ((text : List ℕ) × GetOutcome k secret uuid (Ok text) t)
+MeasureFails k secret uuid Memory t = GetOutcome k secret uuid (Err gets.Memory) t
 MeasureFails k secret uuid (Gpt why) t = ⊥
 MeasureFails k secret uuid (NoPart name) t = ⊥
 MeasureFails k secret uuid (Apk why) t = ⊥

@@ -12,7 +12,6 @@ use instance_image::{GetFault, Image, PutFault};
 use mg_base::Guid;
 use sha_tree::Measure;
 use std::alloc::Global;
-use text_lines::LineFault;
 
 // The cause of a record that was not got. Want of memory is boot's own.
 fn get_cause(fault: GetFault) -> BootCause
@@ -58,9 +57,8 @@ pub(crate) fn got_measure<H: Host>(
         Err(fault) => return Err(get_cause(fault)),
     };
     match read_measure(text.bytes()) {
-        Ok(measure) => Ok(Some(measure)),
-        Err(LineFault::Kind(_)) => Err(BootCause::MeasureText),
-        Err(LineFault::Memory) => Err(BootCause::Memory),
+        Some(measure) => Ok(Some(measure)),
+        None => Err(BootCause::MeasureText),
     }
 }
 

@@ -11,7 +11,7 @@ use Rattle.text_lines.specs.declared.kinds.PlanKind.TheVariants as kinds
 use Rattle.text_lines.specs.declared.kinds.PlanFault.{PlanFault}
 use Rattle.text_lines.specs.declared.kinds.LineFault.{LineFault}
 use Rattle.text_lines.specs.declared.kinds.LineFault.TheVariants as fault
-use Rattle.text_lines.specs.Fields.{◌>>=◌, Gives, cut, first_field, first_or, field, last_field, last_from, two_fields, three_fields, four_fields, five_fields}
+use Rattle.text_lines.specs.Fields.{◌>>=◌, Fails, IsKind, cut, first_field, first_or, field, last_field, last_from, two_fields, three_fields, four_fields, five_fields}
 use Rattle.text_lines.specs.Values.{number_in, hex_of, page_salt, name_of, part_of, is_name, is_part}
 use Rattle.text_lines.specs.Lines.{adds, text_of}
 use Rattle.text_lines.specs.Lists.{complete_by, completed}
@@ -472,10 +472,12 @@ measure_in_again m h =
 not_both : (r : Result Measure PlanKind) (m : Measure) (k : PlanKind) → r ≡ Ok m → r ≡ Err k → ⊥
 not_both r m k a b = cc
 
-pub measure_says : (text : List ℕ) (r : Result Measure LineFault) → Gives (λ m. m) r (measure_in text) → SaysMeasure text r
-measure_says text (Ok m) e = measure_in_takes text m e
-measure_says text (Err (fault.Kind k)) e = λ m is. not_both (measure_in text) m k (ap measure_in is.spelled ∙ measure_in_again m is.device) e
-measure_says text (Err fault.Memory) e = tt
+pub measure_is : (text : List ℕ) (m : Measure) → measure_in text ≡ Ok m → SaysMeasure text (Some m)
+measure_is text m e = measure_in_takes text m e
+
+pub measure_is_none : (text : List ℕ) (why : LineFault) → Fails why (measure_in text) → IsKind why → SaysMeasure text None
+measure_is_none text (fault.Kind k) e kind = λ m is. not_both (measure_in text) m k (ap measure_in is.spelled ∙ measure_in_again m is.device) e
+measure_is_none text fault.Memory e kind = absurd kind
 
 -- ---- no line feed
 

@@ -1,5 +1,5 @@
 -- Lines that are told apart by a word, and what is made of a line's fields.
-use Rattle.std.proofs.Common.{◌≡◌, ℕ, List, cond, Result, Ok, Err, inl, inr}
+use Rattle.std.proofs.Common.{◌≡◌, ℕ, List, cond, Result, Ok, inl, inr}
 use Rattle.std.specs.Str.{bytes_eq}
 use Rattle.text_lines.specs.declared.kinds.PlanKind.{PlanKind}
 use Rattle.text_lines.specs.Fields.{◌>>=◌}

@@ -1,8 +1,6 @@
 -- The text of a measure by itself, as a record keeps it.
-use Rattle.std.specs.Prelude.{◌≡◌, ℕ, List, Result, Ok, Err}
+use Rattle.std.specs.Prelude.{◌≡◌, ℕ, List, Option, Some, None}
 use Rattle.sha_tree.specs.declared.measure.Measure.{Measure}
-use Rattle.text_lines.specs.declared.kinds.LineFault.{LineFault}
-use Rattle.text_lines.specs.declared.kinds.LineFault.TheVariants.{Kind, Memory}
 use Rattle.guest_plan.specs.Spelling.{IsDevice, measure_text}
 
 -- it is the text of this measure, which is one that a device may have
@@ -11,7 +9,6 @@ pub record IsMeasureText (text : List ℕ) (m : Measure) : Type 0 where
   pub spelled : text ≡ measure_text m
 
 -- what a reader of such a text says: the measure, or that there is none
-abbrev pub SaysMeasure : List ℕ → Result Measure LineFault → Type 0
-SaysMeasure text (Ok m) = IsMeasureText text m
-SaysMeasure text (Err (Kind kind)) = (m : Measure) → ¬ IsMeasureText text m
-SaysMeasure text (Err Memory) = Unit {0}
+abbrev pub SaysMeasure : List ℕ → Option Measure → Type 0
+SaysMeasure text (Some m) = IsMeasureText text m
+SaysMeasure text None = (m : Measure) → ¬ IsMeasureText text m

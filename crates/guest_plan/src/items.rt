@@ -1,6 +1,6 @@
 // What a line of a plan says.
-ghost use Rattle.std.specs.Prelude.{◌≡◌};
-ghost use Rattle.text_lines.specs.Fields.{Gives};
+ghost use Rattle.std.specs.Prelude.{◌≡◌, IfErr};
+ghost use Rattle.text_lines.specs.Fields.{Gives, IsKind};
 ghost use Rattle.guest_plan.specs.Items.{uuid_of, measure_of, secret_of, instance_salt_of, instance_of, blob_of, file_of, named_file_of, write_of, writedir_of, apk_fields, places_of, apk_fixed_of, apk_first_of, apk_kept_of, apk_by, apk_of, item_of};
 ghost use Rattle.guest_plan.specs.Apks.{fields_at, places_at};
 
@@ -37,7 +37,8 @@ pub fn uuid_of(text: &[u8]) -> Result<Guid, LineFault>
 /// A measure, by the texts of its blocks, salt and root.
 #[tactic(auto, unfolding(crate::specs::Items::measure_of))]
 pub(crate) fn measure_of(blocks: &[u8], salt: &[u8], root: &[u8]) -> Result<Measure, LineFault>
-    ensures { Gives (λ m. m) result (measure_of blocks.now salt.now root.now) }
+    ensures value { Gives (λ m. m) result (measure_of blocks.now salt.now root.now) }
+    ensures kind { IfErr result IsKind }
 {
     let blocks = number_in(2, BLOCKS, blocks)?;
     let salt = page_salt(salt)?;

@@ -1,6 +1,6 @@
 // The text of a measure, as a record keeps it.
-ghost use Rattle.std.specs.Prelude.{◌≡◌, ◌≤◌, length};
-ghost use Rattle.text_lines.specs.Fields.{Gives};
+ghost use Rattle.std.specs.Prelude.{◌≡◌, ◌≤◌, length, IfErr};
+ghost use Rattle.text_lines.specs.Fields.{Gives, IsKind};
 ghost use Rattle.guest_plan.specs.Items.{measure_in};
 ghost use Rattle.guest_plan.specs.Spelling.{measure_text};
 ghost use Rattle.guest_plan.specs.Measures.{SaysMeasure};
@@ -27,17 +27,20 @@ pub fn measure_text(measure: &Measure) -> Line
 // The measure of a text, or the first thing wrong with it.
 #[tactic(auto, unfolding(crate::specs::Items::measure_in))]
 fn measure_in(text: &[u8]) -> Result<Measure, LineFault>
-    ensures { Gives (λ m. m) result (measure_in text.now) }
+    ensures value { Gives (λ m. m) result (measure_in text.now) }
+    ensures kind { IfErr result IsKind }
 {
     let (blocks, salt, root) = three_fields(text)?;
     measure_of(blocks, salt, root)
 }
 
-/// The measure that a text says: of 2 to 1,048,576 blocks, with a salt of at most 32 bytes. `LineFault::Kind` comes exactly where it
-/// is the text of none.
-#[tactic(auto, using(crate::proofs::Whole::measure_says))]
-pub fn read_measure(text: &[u8]) -> Result<Measure, LineFault>
+/// The measure that a text says: of 2 to 1,048,576 blocks, with a salt of at most 32 bytes; None exactly where it is the text of
+/// none. It takes no memory.
+pub fn read_measure(text: &[u8]) -> Option<Measure>
     ensures { SaysMeasure text.now result }
 {
-    measure_in(text)
+    match measure_in(text) {
+        Ok(measure) => Some(measure),
+        Err(_) => None,
+    }
 }

@@ -15,6 +15,11 @@ abbrev pub Fails : {Y : Type 0} → LineFault → Result Y PlanKind → Type 0
 Fails (faults.Kind k) read = read ≡ Err k
 Fails faults.Memory read = Unit {0}
 
+-- it is the kind of a line: memory didn't run out
+abbrev pub IsKind : LineFault → Type 0
+IsKind (faults.Kind k) = Unit {0}
+IsKind faults.Memory = ⊥
+
 abbrev pub Gives : {X Y : Type 0} → (X → Y) → Result X LineFault → Result Y PlanKind → Type 0
 Gives view (Ok x) read = read ≡ Ok (view x)
 Gives view (Err e) read = Fails e read

@@ -1,7 +1,7 @@
 // A line cut into its fields.
 
-ghost use Rattle.std.specs.Prelude.{◌≡◌, ◌<◌, MatchOption, IfSome, length, Some};
-ghost use Rattle.text_lines.specs.Fields.{Gives, cut, first_field, field, last_field, two_fields, three_fields, four_fields, five_fields};
+ghost use Rattle.std.specs.Prelude.{◌≡◌, ◌<◌, MatchOption, IfErr, IfSome, length, Some};
+ghost use Rattle.text_lines.specs.Fields.{Gives, IsKind, cut, first_field, field, last_field, two_fields, three_fields, four_fields, five_fields};
 
 use crate::kinds::{LineFault, PlanKind};
 
@@ -33,7 +33,8 @@ pub fn first_field(line: &[u8]) -> &[u8]
 /// A field with another behind it.
 #[tactic(auto, unfolding(crate::specs::Fields::field))]
 pub fn field(rest: &[u8]) -> Result<(&[u8], &[u8]), LineFault>
-    ensures { Gives (λ x. (x.0.now, x.1.now)) result (field rest.now) }
+    ensures value { Gives (λ x. (x.0.now, x.1.now)) result (field rest.now) }
+    ensures kind { IfErr result IsKind }
 {
     match cut(rest, b' ') {
         Some((front, behind)) => Ok((front, behind)),
@@ -44,7 +45,8 @@ pub fn field(rest: &[u8]) -> Result<(&[u8], &[u8]), LineFault>
 /// A field with no other behind it.
 #[tactic(auto, unfolding(crate::specs::Fields::last_field))]
 pub fn last_field(rest: &[u8]) -> Result<&[u8], LineFault>
-    ensures { Gives (λ x. x.now) result (last_field rest.now) }
+    ensures value { Gives (λ x. x.now) result (last_field rest.now) }
+    ensures kind { IfErr result IsKind }
 {
     match cut(rest, b' ') {
         Some(_) => Err(LineFault::Kind(PlanKind::Fields)),
@@ -54,7 +56,8 @@ pub fn last_field(rest: &[u8]) -> Result<&[u8], LineFault>
 
 #[tactic(auto, unfolding(crate::specs::Fields::two_fields))]
 pub fn two_fields(line: &[u8]) -> Result<(&[u8], &[u8]), LineFault>
-    ensures { Gives (λ x. (x.0.now, x.1.now)) result (two_fields line.now) }
+    ensures value { Gives (λ x. (x.0.now, x.1.now)) result (two_fields line.now) }
+    ensures kind { IfErr result IsKind }
 {
     let (word, rest) = field(line)?;
     let first = last_field(rest)?;
@@ -63,7 +66,8 @@ pub fn two_fields(line: &[u8]) -> Result<(&[u8], &[u8]), LineFault>
 
 #[tactic(auto, unfolding(crate::specs::Fields::three_fields))]
 pub fn three_fields(line: &[u8]) -> Result<(&[u8], &[u8], &[u8]), LineFault>
-    ensures { Gives (λ x. (x.0.now, x.1.now, x.2.now)) result (three_fields line.now) }
+    ensures value { Gives (λ x. (x.0.now, x.1.now, x.2.now)) result (three_fields line.now) }
+    ensures kind { IfErr result IsKind }
 {
     let (word, rest) = field(line)?;
     let (first, second) = two_fields(rest)?;
@@ -72,7 +76,8 @@ pub fn three_fields(line: &[u8]) -> Result<(&[u8], &[u8], &[u8]), LineFault>
 
 #[tactic(auto, unfolding(crate::specs::Fields::four_fields))]
 pub fn four_fields(line: &[u8]) -> Result<(&[u8], &[u8], &[u8], &[u8]), LineFault>
-    ensures { Gives (λ x. (x.0.now, x.1.now, x.2.now, x.3.now)) result (four_fields line.now) }
+    ensures value { Gives (λ x. (x.0.now, x.1.now, x.2.now, x.3.now)) result (four_fields line.now) }
+    ensures kind { IfErr result IsKind }
 {
     let (word, rest) = field(line)?;
     let (first, second, third) = three_fields(rest)?;
@@ -81,8 +86,9 @@ pub fn four_fields(line: &[u8]) -> Result<(&[u8], &[u8], &[u8], &[u8]), LineFaul
 
 #[tactic(auto, unfolding(crate::specs::Fields::five_fields))]
 pub fn five_fields(line: &[u8]) -> Result<(&[u8], &[u8], &[u8], &[u8], &[u8]), LineFault>
-    ensures { Gives (λ x. (x.0.now, x.1.now, x.2.now, x.3.now, x.4.now)) result
+    ensures value { Gives (λ x. (x.0.now, x.1.now, x.2.now, x.3.now, x.4.now)) result
         (five_fields line.now) }
+    ensures kind { IfErr result IsKind }
 {
     let (word, rest) = field(line)?;
     let (first, second, third, fourth) = four_fields(rest)?;

@@ -8,7 +8,7 @@ ghost use Rattle.std.specs.List.{list_all};
 ghost use Rattle.std.specs.Fmt.{decimal};
 ghost use Rattle.hex.specs.Hex.{encode_lower};
 ghost use Rattle.text_lines.specs.Spelling.{IsHexed, IsSalt, salt_text};
-ghost use Rattle.text_lines.specs.Fields.{Gives, Fails};
+ghost use Rattle.text_lines.specs.Fields.{Gives, Fails, IsKind};
 ghost use Rattle.text_lines.specs.Values.{is_number, number_in, hex_of, page_salt, is_printed, is_name_byte, is_name, name_of, is_part, part_of, is_folder_name, folder_name_of};
 
 use crate::kinds::{LineFault, Name, PlanKind};
@@ -60,7 +60,8 @@ fn value_of(text: &[u8]) -> Option<u64>
 
 #[tactic(auto, unfolding(crate::specs::Values::number_in))]
 fn parse_number64(text: &[u8]) -> Result<u64, LineFault>
-    ensures { Gives (λ n. n) result (number_in 0 (2 ^ 64) text.now) }
+    ensures value { Gives (λ n. n) result (number_in 0 (2 ^ 64) text.now) }
+    ensures kind { IfErr result IsKind }
 {
     if !is_number(text) {
         return Err(LineFault::Kind(PlanKind::Number));
@@ -73,7 +74,8 @@ fn parse_number64(text: &[u8]) -> Result<u64, LineFault>
 
 #[tactic(auto, unfolding(crate::specs::Values::number_in))]
 fn parse_number(low: u64, limit: u64, text: &[u8]) -> Result<u64, LineFault>
-    ensures { Gives (λ n. n) result (number_in low limit text.now) }
+    ensures value { Gives (λ n. n) result (number_in low limit text.now) }
+    ensures kind { IfErr result IsKind }
 {
     let n = parse_number64(text)?;
     if n < low || limit <= n {
@@ -86,8 +88,9 @@ fn parse_number(low: u64, limit: u64, text: &[u8]) -> Result<u64, LineFault>
 #[tactic(auto, unfolding(crate::specs::Values::hex_of))]
 pub fn read_hex(text: &[u8], out: &mut [u8]) -> Result<(), LineFault>
     requires { length out.old ≤ 64 }
-    ensures { MatchResult result (λ _. hex_of (length out.old) text.now ≡ Ok out.new)
+    ensures value { MatchResult result (λ _. hex_of (length out.old) text.now ≡ Ok out.new)
         (λ e. Fails e (hex_of (length out.old) text.now)) }
+    ensures kind { IfErr result IsKind }
 {
     if hex::decode_to_slice(text, out).is_err() {
         return Err(LineFault::Kind(PlanKind::Hex));
@@ -106,7 +109,8 @@ pub fn read_hex(text: &[u8], out: &mut [u8]) -> Result<(), LineFault>
 }
 
 fn parse_hex32(text: &[u8]) -> Result<[u8; 32], LineFault>
-    ensures { Gives (λ b. b) result (hex_of 32 text.now) }
+    ensures value { Gives (λ b. b) result (hex_of 32 text.now) }
+    ensures kind { IfErr result IsKind }
 {
     let mut bytes = [0u8; 32];
     read_hex(text, &mut bytes)?;
@@ -114,7 +118,8 @@ fn parse_hex32(text: &[u8]) -> Result<[u8; 32], LineFault>
 }
 
 fn parse_hex64(text: &[u8]) -> Result<[u8; 64], LineFault>
-    ensures { Gives (λ b. b) result (hex_of 64 text.now) }
+    ensures value { Gives (λ b. b) result (hex_of 64 text.now) }
+    ensures kind { IfErr result IsKind }
 {
     let mut bytes = [0u8; 64];
     read_hex(text, &mut bytes)?;
@@ -123,7 +128,8 @@ fn parse_hex64(text: &[u8]) -> Result<[u8; 64], LineFault>
 
 #[tactic(auto, unfolding(crate::specs::Values::page_salt))]
 fn parse_salt(text: &[u8]) -> Result<Salt, LineFault>
-    ensures { Gives (λ s. s) result (page_salt text.now) }
+    ensures value { Gives (λ s. s) result (page_salt text.now) }
+    ensures kind { IfErr result IsKind }
 {
     if text == b"-".as_slice() {
         return Ok(Salt::none());
@@ -267,6 +273,8 @@ pub fn number_in(low: u64, limit: u64, text: &[u8]) -> Result<u64, LineFault>
     // What is spelled so is read.
     ensures only { (n : ℕ) → text.now ≡ decimal n → low ≤ n → n < limit
         → Gives (λ m. m) result (Ok n) }
+    // It takes no memory.
+    ensures kind { IfErr result IsKind }
 {
     parse_number(low, limit, text)
 }
@@ -279,6 +287,8 @@ pub fn number64(text: &[u8]) -> Result<u64, LineFault>
     ensures found { IfOk result (λ n. text.now ≡ decimal n) }
     // What is spelled so is read.
     ensures only { (n : ℕ) → text.now ≡ decimal n → n < 2 ^ 64 → Gives (λ m. m) result (Ok n) }
+    // It takes no memory.
+    ensures kind { IfErr result IsKind }
 {
     parse_number64(text)
 }
@@ -292,6 +302,8 @@ pub fn hex32(text: &[u8]) -> Result<[u8; 32], LineFault>
     // What is spelled so is read.
     ensures only { (b : List ℕ) → IsHexed 32 b → text.now ≡ encode_lower b
         → Gives (λ x. x) result (Ok b) }
+    // It takes no memory.
+    ensures kind { IfErr result IsKind }
 {
     parse_hex32(text)
 }
@@ -305,6 +317,8 @@ pub fn hex64(text: &[u8]) -> Result<[u8; 64], LineFault>
     // What is spelled so is read.
     ensures only { (b : List ℕ) → IsHexed 64 b → text.now ≡ encode_lower b
         → Gives (λ x. x) result (Ok b) }
+    // It takes no memory.
+    ensures kind { IfErr result IsKind }
 {
     parse_hex64(text)
 }
@@ -318,6 +332,8 @@ pub fn page_salt(text: &[u8]) -> Result<Salt, LineFault>
     // What is spelled so is read.
     ensures only { (s : List ℕ) → IsSalt s → text.now ≡ salt_text s
         → Gives (λ x. x) result (Ok s) }
+    // It takes no memory.
+    ensures kind { IfErr result IsKind }
 {
     parse_salt(text)
 }

@@ -1,7 +1,6 @@
-use Rattle.std.proofs.Common.{◌≡◌, ℕ, List, length, Ok, Err, refl, ap, sym, subst, ◌∙◌}
+use Rattle.std.proofs.Common.{◌≡◌, ℕ, List, Ok, Err, refl, sym, subst, ◌∙◌}
 use Rattle.host_traits.specs.Did.{DidBy}
 use Rattle.instance_image.specs.Access.{IsPutting, PutOutcome}
-use Rattle.instance_image.specs.Records.{fits, fits_in}
 use Rattle.guest_plan.specs.Spelling.{measure_text}
 use Rattle.guest_boot.proofs.Recording.{keep_refused, keep_starved, keep_put, keep_unput}
 use Rattle.guest_boot.proofs.records.keep_measure.Goals as goal
