@@ -8,7 +8,7 @@ use Rattle.std.proofs.lemmas.List.Elements.{All-head, All-tail}
 use Rattle.mg_base.specs.declared.values.Span.{Span}
 use Rattle.host_traits.specs.declared.calls.Call.{Call}
 use Rattle.host_traits.specs.declared.calls.Said.TheVariants.{Number, Bytes}
-use Rattle.host_traits.specs.Told.{Told, Exchanges, heard_of}
+use Rattle.host_traits.specs.Told.{Told, Exchanges}
 use Rattle.host_traits.specs.Did.{Did, Trace, trace_of}
 use Rattle.host_traits.proofs.Doing.{did_none, did_so, did_then, failed_later, failed_so}
 use Rattle.gpt.specs.declared.faults.GptFault.{GptFault}

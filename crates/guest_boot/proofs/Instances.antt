@@ -1,5 +1,5 @@
 -- The instance line of a plan, and its image.
-use Rattle.std.proofs.Common.{◌≡◌, ℕ, zero, suc, ◌+◌, ◌<◌, ◌≤◌, ◌∙◌, List, [], ◌∷◌, ◌++◌, length, drop, get_or, Option, Some, None, Result, Ok, Err, refl, ap, sym, subst, inl, inr, arith}
+use Rattle.std.proofs.Common.{◌≡◌, ℕ, zero, suc, ◌+◌, ◌<◌, ◌≤◌, ◌∙◌, List, [], ◌∷◌, ◌++◌, length, drop, get_or, Option, Some, None, Ok, Err, refl, ap, sym, subst, inl, inr, arith}
 use Rattle.std.specs.Prelude.{slice_get}
 use Rattle.mg_base.specs.declared.values.Span.{Span}
 use Rattle.host_traits.specs.declared.calls.Call.{Call}
@@ -9,12 +9,11 @@ use Rattle.host_traits.proofs.Doing.{did_so, did_then, failed_later, short_later
 use Rattle.instance_image.specs.declared.faults.ImageFault.{ImageFault}
 use Rattle.instance_image.specs.declared.faults.ImageFault.TheVariants as images
 use Rattle.instance_image.specs.Records.{Kept}
-use Rattle.instance_image.specs.Opening.{Opening, opening, IsImageCall, IsNextCall, IsOpened, OpenOutcome}
+use Rattle.instance_image.specs.Opening.{Opening, opening, IsImageCall, IsNextCall, OpenOutcome}
 use Rattle.guest_plan.specs.declared.plan.PlanLine.{PlanLine}
 use Rattle.guest_plan.specs.declared.plan.PlanLine.TheVariants as line
 use Rattle.guest_boot.specs.declared.faults.BootCause.{BootCause}
 use Rattle.guest_boot.specs.declared.faults.BootCause.TheVariants.{Gpt, NoPart, Apk, File, Image, Get, Put, NoEntropy, MeasureText, Failed, Short, Memory}
-use Rattle.guest_boot.specs.declared.faults.BootFault.{BootFault}
 use Rattle.guest_boot.specs.Finding.{TableOn, IsTableCall, one_part, Finds, FindFails, FindOutcome}
 use Rattle.guest_boot.specs.Booting.{InstanceLine, instance_from, instance_in, InstanceStands, IsSalted, IsForImage, IsForLines, most_of_instance, image_cause, ImageBoots, ImageIsRefused, ImageFails, ImageOutcome, InstanceBoots, InstanceOutcome}
 use Rattle.guest_plan.specs.Plans.{Known}

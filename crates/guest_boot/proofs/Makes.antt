@@ -6,13 +6,11 @@ use Rattle.host_traits.specs.declared.calls.Call.{Call}
 use Rattle.host_traits.specs.declared.calls.Said.TheVariants.{Bytes}
 use Rattle.host_traits.specs.Told.{Told, Exchanges}
 use Rattle.host_traits.specs.Did.{Did, Trace, trace_of}
-use Rattle.host_traits.proofs.Doing.{did_none, did_so, did_then, failed_later, short_later, scarce_later}
+use Rattle.host_traits.proofs.Doing.{did_so, did_then, failed_later, short_later, scarce_later}
 use Rattle.apk_verity.specs.declared.ApkFault.{ApkFault}
 use Rattle.apk_verity.specs.declared.ApkFault.TheVariants as apks
 use Rattle.apk_verity.specs.Opening.{Opening, opening, idsig_call, IsIdsigCall, IsOpened, OpenOutcome, opened}
 use Rattle.guest_plan.specs.declared.plan.How.{How}
-use Rattle.guest_plan.specs.declared.plan.PlanLine.{PlanLine}
-use Rattle.guest_plan.specs.declared.plan.PlanLine.TheVariants as line
 use Rattle.mg_base.specs.declared.values.Digest.{Digest}
 use Rattle.ro_file.specs.declared.files.RoFault.{RoFault}
 use Rattle.ro_file.specs.declared.files.RoFault.TheVariants as files
@@ -26,7 +24,7 @@ use Rattle.sha_tree.specs.declared.measure.Measure.{Measure}
 use Rattle.sha_tree.specs.Tree.{block_count}
 use Rattle.guest_plan.specs.Spelling.{IsDevice}
 use Rattle.verity_path.specs.declared.device.Device.{Device}
-use Rattle.guest_boot.specs.Booting.{IsItem, AreItems, device_on, Booted, measure_in, IsForApk, ApkBoots, ApkFails, ApkIsRefused, apk_cause, BlobOutcome, FileFails, file_cause, FileOutcome, LineOutcome, IsForLine, most_in_place, ApkOutcome, DeviceBoots, DeviceFails, DeviceOutcome}
+use Rattle.guest_boot.specs.Booting.{IsItem, AreItems, device_on, Booted, measure_in, IsForApk, ApkBoots, ApkFails, ApkIsRefused, apk_cause, FileFails, file_cause, FileOutcome, ApkOutcome, DeviceFails, DeviceOutcome}
 
 fits : (m : ℕ) → block_count (4096 * m) ≡ m
 fits m = omega arith

@@ -1,5 +1,5 @@
 -- What one line did, whatever the secret and the writes before it.
-use Rattle.std.proofs.Common.{◌≡◌, ℕ, ◌∙◌, ◌≤◌, List, [], ◌∷◌, ◌++◌, Option, Some, None, Result, Ok, Err, refl, ap, sym, subst, inl, inr, arith, append-nil}
+use Rattle.std.proofs.Common.{◌≡◌, ℕ, ◌≤◌, List, [], ◌++◌, Option, Some, None, Result, Ok, Err, refl, ap, sym, subst, inl, inr, arith, append-nil}
 use Rattle.host_traits.specs.Told.{Told, Exchanges}
 use Rattle.host_traits.specs.Did.{Did, Trace, trace_of}
 use Rattle.host_traits.specs.declared.calls.Call.{Call}
@@ -24,7 +24,7 @@ use Rattle.guest_boot.specs.declared.faults.BootCause.TheVariants.{Gpt, NoPart, 
 use Rattle.guest_boot.specs.declared.lines.Boot.{Boot}
 use Rattle.guest_boot.specs.Finding.{TableOn, IsTableCall, FindOutcome, Finds, both_parts}
 use Rattle.guest_boot.specs.Recording.{Writing, ReadsOrWrites, DidWriting}
-use Rattle.guest_boot.specs.Booting.{Booted, state_of, plain_of, ApkBoots, ApkStops, ApkFails, ApkIsRefused, ApkOutcome, FileBoots, FileOutcome, BlobOutcome, Recorded, with_recorded, FoundOutcome, MeasuredDone, FoundDone, RecordedOutcome, RecordedDone, IsForApk, IsForFound, IsForRecorded, IsForLine, most_in_place, LineOutcome, LineDone}
+use Rattle.guest_boot.specs.Booting.{Booted, state_of, plain_of, ApkBoots, ApkStops, ApkFails, ApkIsRefused, ApkOutcome, FileOutcome, WriteOutcome, IsResize, BlobOutcome, with_recorded, FoundOutcome, MeasuredDone, FoundDone, RecordedOutcome, RecordedDone, IsForApk, IsForFound, IsForRecorded, IsForLine, most_in_place, LineOutcome, LineDone}
 use Rattle.guest_boot.proofs.Recording.{did_as, did_reading}
 use Rattle.guest_boot.proofs.Runs.{found_later}
 
@@ -132,9 +132,22 @@ module _ (secret : Option (List ℕ)) (s new : Boot) (a b : Told) where
       → DidWriting (IsForLine (line.File name file digest)) 1 a b (LineDone secret s (line.File name file digest) new r)
   did_file name file digest r d = reads_line (IsDescriptorCall file) 1 (line.File name file digest) (FileOutcome (plain_of s) file digest (plain_of new) r) r d (λ call x. x) refl (file_line name file digest r)
 
+  write_line : (name : List ℕ) (file : ℕ) (r : Result (Unit {0}) BootCause) (t : Trace) (earlier : List Writing) → WriteOutcome file r t
+      → LineOutcome (state_of s secret earlier) (line.Write name file) (state_of s secret earlier) r t
+  write_line name file (Ok u) t earlier h = (h.0, (h.1, refl))
+  write_line name file (Err why) t earlier h = (refl, h)
+
+module _ (secret : Option (List ℕ)) (s : Boot) (a b : Told) where
+  pub did_write : (name : List ℕ) (file : ℕ) (r : Result (Unit {0}) BootCause) → Did (IsResize file) 1 a b (WriteOutcome file r)
+      → DidWriting (IsForLine (line.Write name file)) 1 a b (LineDone secret s (line.Write name file) s r)
+  did_write name file r d = reads_line secret s s a b (IsResize file) 1 (line.Write name file) (WriteOutcome file r) r d (λ call x. x) refl (write_line secret s s a b name file r)
+
 module _ (secret : Option (List ℕ)) (s new : Boot) (a : Told) where
   pub did_instance : (disk : ℕ) (part : List ℕ) → DidWriting (IsForLine (line.Instance disk part)) 0 a a (LineDone secret s (line.Instance disk part) s (Ok tt))
   did_instance disk part = reads_line secret s s a a _ 0 (line.Instance disk part) _ (Ok tt) (did_none (λ call. ⊥) 0 a (λ t. (t.failed ≡ 0) × (t.own ≡ [])) (refl, refl)) (λ call x. absurd x) refl (λ t earlier h. (h.0, (h.1, refl)))
+
+  pub did_writedir : (name : List ℕ) (file : ℕ) → DidWriting (IsForLine (line.WriteDir name file)) 0 a a (LineDone secret s (line.WriteDir name file) s (Ok tt))
+  did_writedir name file = reads_line secret s s a a _ 0 (line.WriteDir name file) _ (Ok tt) (did_none (λ call. ⊥) 0 a (λ t. (t.failed ≡ 0) × (t.own ≡ [])) (refl, refl)) (λ call x. absurd x) refl (λ t earlier h. (h.0, (h.1, refl)))
 
   blob_line : (file : ℕ) (m : Measure) (r : Result (Unit {0}) BootCause) (t : Trace) (earlier : List Writing) → BlobOutcome (plain_of s) file m (plain_of new) r → t.failed ≡ 0 → t.own ≡ []
       → LineOutcome (state_of s secret earlier) (line.Blob file m) (state_of new secret earlier) r t

@@ -1,9 +1,10 @@
 -- From a plan in the grammar to its lines.
-use Rattle.std.proofs.Common.{if◌then◌else◌, ◌≡◌, ℕ, zero, suc, ◌+◌, ◌<◌, ◌∙◌, get_or, List, [], ◌∷◌, ◌++◌, length, refl, ap, sym, subst, arith, Bool, true, false, ◌||◌, Option, Some, None, is_some, Ok, Err, Result}
+use Rattle.std.proofs.Common.{if◌then◌else◌, ◌≡◌, ℕ, zero, suc, ◌+◌, ◌<◌, ◌∙◌, get_or, List, [], ◌∷◌, ◌++◌, length, refl, ap, sym, subst, inl, inr, arith, Bool, true, false, ◌||◌, Option, Some, None, is_some, Ok, Err, Result}
 use Rattle.std.specs.Prelude.{slice_get, not, ◌&&◌}
 use Rattle.std.specs.List.{AllByRecursion, list_any}
 use Rattle.std.proofs.lemmas.List.{length-append}
-use Rattle.host_traits.specs.Told.{Exchanges}
+use Rattle.host_traits.specs.declared.calls.Call.{Call}
+use Rattle.host_traits.specs.Told.{Exchanges, Kind, kind_bytes, kind_number, kind_done, kind_of}
 use Rattle.text_lines.specs.declared.kinds.PlanKind.{PlanKind}
 use Rattle.text_lines.specs.Fields.{◌>>=◌}
 use Rattle.text_lines.specs.Spelling.{collect}
@@ -14,7 +15,8 @@ use Rattle.guest_plan.specs.declared.plan.Item.{Item}
 use Rattle.guest_plan.specs.declared.plan.Item.TheVariants.{Secret, InstanceSalt, Line}
 use Rattle.guest_plan.specs.Plans.{Known, nothing, add, clash, is_instance, first_lacking, has_keys, has_instance, is_kept}
 use Rattle.guest_plan.specs.Spelling.{IsPlan, IsServed, IsItem as IsSaid}
-use Rattle.guest_boot.specs.Booting.{AreServed, PlansAreNumbered, InstanceLine, instance_from, IsSalted, PlansAreSalted, InstanceIsAlone, Booted, LineBoots, IsUnrecorded, RecordsStay, OthersWriteNothing}
+use Rattle.guest_boot.specs.Finding.{IsTableCall}
+use Rattle.guest_boot.specs.Booting.{AreServed, PlansAreNumbered, InstanceLine, instance_from, IsSalted, PlansAreSalted, InstanceIsAlone, Booted, LineBoots, OnlyReads, RecordsStay, ReadersWriteNothing, IsForApk, IsForImage, IsForLine, IsRead, ReadersOnlyRead}
 
 served_push : (lines : List PlanLine) (l : PlanLine) → AreServed lines → IsServed l → AreServed (lines ++ l ∷ [])
 served_push [] l s one = (one, tt)
@@ -223,7 +225,7 @@ alone text plan at disk part p stands =
     let same : 0 + at ≡ at = omega arith in
     subst (λ (k : ℕ). instance_from 0 plan.lines ≡ Some (record { at = k; disk = disk; part = part })) same (alone_from 0 plan.lines at disk part (single 2 nothing plan p.items.items tt p.items.says) stands)
 
--- ---- a line whose measure is in no record writes nothing
+-- ---- a line for which boot only reads changes nothing
 
 stays_so : (s mid : Booted) → mid.image ≡ s.image → mid.entropy ≡ s.entropy → mid.writings ≡ s.writings → RecordsStay s mid
 stays_so s mid a b c = record { image = a; entropy = b; writings = c }
@@ -231,19 +233,58 @@ stays_so s mid a b c = record { image = a; entropy = b; writings = c }
 stays_by : (s mid : Booted) (like : Booted) → mid ≡ like → RecordsStay s like → RecordsStay s mid
 stays_by s mid like e r = subst (RecordsStay s) (sym e) r
 
-line_stays : (s : Booted) (l : PlanLine) (own : Exchanges) (new : Booted) → IsUnrecorded l → LineBoots s l own new → RecordsStay s new
+line_stays : (s : Booted) (l : PlanLine) (own : Exchanges) (new : Booted) → OnlyReads l → LineBoots s l own new → RecordsStay s new
 line_stays s (line.Instance disk part) own new none b = stays_by s new _ b.1 (stays_so s _ refl refl refl)
 line_stays s (line.Blob file m) own new none b = stays_by s new _ b.1 (stays_so s _ refl refl refl)
 line_stays s (line.Apk disk apk idsig (measures.Fixed m)) own new none b = stays_by s new _ b.new_is (stays_so s _ refl refl refl)
 line_stays s (line.Apk disk apk idsig measures.First) own new none b = stays_by s new _ b.new_is (stays_so s _ refl refl refl)
 line_stays s (line.Apk disk apk idsig (measures.Kept uuid)) own new none b = absurd none
 line_stays s (line.File name file digest) own new none b = stays_by s new _ b.new_is (stays_so s _ refl refl refl)
-line_stays s (line.Write name file) own new none b = absurd b
-line_stays s (line.WriteDir name file) own new none b = absurd b
+line_stays s (line.Write name file) own new none b = absurd none
+line_stays s (line.WriteDir name file) own new none b = stays_by s new _ b.1 (stays_so s _ refl refl refl)
 
-pub stays : OthersWriteNothing
+pub stays : ReadersWriteNothing
 stays s [] own new none b = stays_by s new s b.1 (stays_so s s refl refl refl)
 stays s (l ∷ lines) own new none b =
     let one = line_stays s l b.0 b.2 none.0 b.4 in
     let rest = stays b.2 lines b.1 new none.1 b.5 in
     record { image = rest.image ∙ one.image; entropy = rest.entropy ∙ one.entropy; writings = rest.writings ∙ one.writings }
+
+-- ---- nor do its calls
+
+asks_bytes : (n : ℕ) (k : Kind) → k ≡ kind_bytes n → k ≡ kind_done → ⊥
+asks_bytes n k e f = cc
+
+asks_number : (k : Kind) → k ≡ kind_number → k ≡ kind_done → ⊥
+asks_number k e f = cc
+
+table_reads : (disk : ℕ) (call : Call) → IsTableCall disk call → IsRead call
+table_reads disk call (inl e) = asks_number (kind_of call) (ap kind_of e)
+table_reads disk call (inr (inl e)) = asks_bytes _ (kind_of call) (ap kind_of e)
+table_reads disk call (inr (inr t)) = asks_bytes _ (kind_of call) (ap kind_of t.2)
+
+apk_reads : (disk : ℕ) (call : Call) → IsForApk disk call → IsRead call
+apk_reads disk call (inl t) = table_reads disk call t
+apk_reads disk call (inr p) = asks_bytes _ (kind_of call) (ap kind_of p.1)
+
+image_reads : (disk : ℕ) (call : Call) → IsForImage disk call → IsRead call
+image_reads disk call (inl t) = table_reads disk call t
+image_reads disk call (inr p) = asks_bytes _ (kind_of call) (ap kind_of p.1)
+
+pub line_reads : (l : PlanLine) (call : Call) → OnlyReads l → IsForLine l call → IsRead call
+line_reads (line.Instance disk part) call only f = image_reads disk call f
+line_reads (line.Blob file m) call only f = absurd f
+line_reads (line.Apk disk apk idsig (measures.Fixed m)) call only f = apk_reads disk call f
+line_reads (line.Apk disk apk idsig measures.First) call only f = apk_reads disk call f
+line_reads (line.Apk disk apk idsig (measures.Kept uuid)) call only f = absurd only
+line_reads (line.File name file digest) call only f = asks_bytes _ (kind_of call) (ap kind_of f)
+line_reads (line.Write name file) call only f = absurd only
+line_reads (line.WriteDir name file) call only f = absurd f
+
+only_at : (lines : List PlanLine) (k : ℕ) (l : PlanLine) → AllByRecursion OnlyReads lines → slice_get lines k ≡ Some l → OnlyReads l
+only_at [] k l only at = absurd cc
+only_at (x ∷ lines) zero l only at = let same : x ≡ l = cc in subst OnlyReads same only.0
+only_at (x ∷ lines) (suc k) l only at = only_at lines k l only.1 at
+
+pub only_read : ReadersOnlyRead
+only_read lines call only f = line_reads f.line call (only_at lines f.at f.line only f.stands) f.for

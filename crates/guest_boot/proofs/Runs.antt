@@ -7,8 +7,8 @@ use Rattle.std.proofs.Math.Seq.{take-suc}
 use Rattle.mg_base.specs.declared.values.Digest.{Digest}
 use Rattle.host_traits.specs.declared.calls.Call.{Call}
 use Rattle.host_traits.specs.Told.{Told, Exchanges}
-use Rattle.host_traits.specs.Did.{Did, DidBy, Trace, trace_of}
-use Rattle.host_traits.proofs.Doing.{did_by_then, failed_later}
+use Rattle.host_traits.specs.Did.{Did, Trace, trace_of}
+use Rattle.host_traits.proofs.Doing.{did_by_then, failed_later, scarce_later}
 use Rattle.apk_verity.specs.declared.ApkFault.{ApkFault}
 use Rattle.apk_verity.specs.declared.ApkFault.TheVariants as apks
 use Rattle.apk_verity.specs.Opening.{opening}
@@ -27,7 +27,7 @@ use Rattle.guest_boot.specs.declared.faults.BootFault.{BootFault}
 use Rattle.guest_boot.specs.declared.lines.Boot.{Boot}
 use Rattle.guest_boot.specs.Finding.{TableNext, TableOn, FindFails, both_parts}
 use Rattle.guest_boot.specs.Recording.{Writing, ReadsOrWrites, DidWriting, MeasureFails}
-use Rattle.guest_boot.specs.Booting.{Booted, Boots, LineBoots, LineFails, ApkFails, ApkFailsBy, ApkIsRefused, FileFails, FoundFails, OpeningFails, KeepingFails, RecordedFails, LineDone, InstanceLine, instance_from, instance_in, Means, BootsFrom, IsForLine, IsForLines, most_of, most_in_place, most_of_instance, measure_in, state_of, before_lines, InstanceOutcome, BootOutcome}
+use Rattle.guest_boot.specs.Booting.{Booted, Boots, LineBoots, LineFails, ApkFails, ApkFailsBy, ApkIsRefused, FileFails, WriteFails, IsResize, FoundFails, OpeningFails, KeepingFails, RecordedFails, LineDone, InstanceLine, instance_from, instance_in, Means, BootsFrom, IsForLine, IsForLines, most_of, most_in_place, most_of_instance, measure_in, state_of, before_lines, InstanceOutcome, BootOutcome}
 use Rattle.guest_boot.proofs.Makes.{open_later}
 use Rattle.guest_boot.proofs.Recording.{did_as, did_reading, written_left, written_right, device_later, keep_later, measure_later}
 
@@ -139,6 +139,20 @@ module _ (a b c : Told) (y : Exchanges) (failed : ℕ) (le : a.faults ≤ b.faul
   file_later file digest (Short asked got) h = h
   file_later file digest Memory h = h
 
+  write_later : (file : ℕ) (why : BootCause) → WriteFails file why (trace_of y failed b c) → WriteFails file why (trace_of y failed a c)
+  write_later file (Failed faults) h = (h.0, failed_later (IsResize file) a b c [] y failed faults le h.1)
+  write_later file Memory h = (h.0, scarce_later a b c [] y failed h.1)
+  write_later file (Gpt f) h = h
+  write_later file (NoPart name) h = h
+  write_later file (Apk f) h = h
+  write_later file (File f) h = h
+  write_later file (Image f) h = h
+  write_later file (Get f) h = h
+  write_later file (Put f) h = h
+  write_later file (NoEntropy left) h = h
+  write_later file MeasureText h = h
+  write_later file (Short asked got) h = h
+
   pub found_later : (s : Booted) (disk : ℕ) (parts : Span × Span) (uuid : List ℕ) (why : BootCause) (after : List Writing) → FoundFails s disk parts uuid why after (trace_of y failed b c)
       → FoundFails s disk parts uuid why after (trace_of y failed a c)
   found_later s disk parts uuid why after (inl (none, is, same, quiet)) = inl (none, is, same, record { own = quiet.own; failed = quiet.failed })
@@ -216,7 +230,7 @@ module _ (a b c : Told) (y : Exchanges) (failed : ℕ) (le : a.faults ≤ b.faul
   line_later s (line.Apk disk apk idsig how) why after h = apk_by_later s disk apk idsig how why after h
   line_later s (line.File name file digest) why after h = (h.0, file_later a b c y failed le file digest why h.1)
   line_later s (line.Instance disk part) why after h = h
-  line_later s (line.Write name file) why after h = h
+  line_later s (line.Write name file) why after h = (h.0, write_later a b c y failed le file why h.1)
   line_later s (line.WriteDir name file) why after h = h
 
 -- ---- the lines in order

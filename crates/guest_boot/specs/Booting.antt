@@ -4,10 +4,10 @@ use Rattle.std.specs.List.{AllByRecursion}
 use Rattle.mg_base.specs.declared.values.Span.{Span}
 use Rattle.mg_base.specs.declared.values.Digest.{Digest}
 use Rattle.host_traits.specs.declared.calls.Call.{Call}
-use Rattle.host_traits.specs.declared.calls.Call.TheVariants.{BlockRead, Descriptor as DescriptorOf}
-use Rattle.host_traits.specs.declared.calls.Said.TheVariants.{Bytes}
-use Rattle.host_traits.specs.Told.{Exchanges}
-use Rattle.host_traits.specs.Did.{Trace}
+use Rattle.host_traits.specs.declared.calls.Call.TheVariants.{BlockRead, Resize, Descriptor as DescriptorOf}
+use Rattle.host_traits.specs.declared.calls.Said.TheVariants.{Bytes, Done}
+use Rattle.host_traits.specs.Told.{Exchanges, kind_of, kind_done}
+use Rattle.host_traits.specs.Did.{Trace, IsFailed, IsScarce}
 use Rattle.sha_tree.specs.declared.measure.Measure.{Measure}
 use Rattle.verity_path.specs.declared.device.Device.{Device}
 use Rattle.verity_path.specs.declared.walk.Layout.TheVariants as layout
@@ -39,21 +39,9 @@ use Rattle.guest_boot.specs.declared.lines.Opened.{Opened}
 use Rattle.guest_boot.specs.Finding.{TableOn, IsTableCall, table_on, HasSoFar, both_parts, one_part, Finds, FindFails}
 use Rattle.guest_boot.specs.Recording.{Writing, IsQuiet, IsGetting, IsEmpty, Measured, MeasureFails, measure_writing, measure_writings, Keeps, KeepFails}
 
--- ---- which lines are opened
+-- ---- the lines of a plan
 
--- the instance, a measured device, an APK device, or a read-only file
-abbrev pub IsBuilt : PlanLine → Type 0
-IsBuilt (line.Instance disk part) = Unit {0}
-IsBuilt (line.Blob file m) = Unit {0}
-IsBuilt (line.Apk disk apk idsig how) = Unit {0}
-IsBuilt (line.File name file digest) = Unit {0}
-IsBuilt (line.Write name file) = ⊥
-IsBuilt (line.WriteDir name file) = ⊥
-
--- all are such, and in the grammar
-abbrev pub AreBuilt : List PlanLine → Type 0
-AreBuilt lines = AllByRecursion IsBuilt lines
-
+-- they are in the grammar
 abbrev pub AreServed : List PlanLine → Type 0
 AreServed lines = AllByRecursion IsServed lines
 
@@ -128,13 +116,17 @@ IsForMeasured disk (measures.Fixed m) call = IsForApk disk call
 IsForMeasured disk measures.First call = IsForApk disk call
 IsForMeasured disk (measures.Kept uuid) call = IsForRecorded disk call
 
--- The calls that hand nothing over. What a line writes is said by what came of it (`Writing`).
+-- a writable file is cut to nothing
+abbrev pub IsResize : ℕ → Call → Type 0
+IsResize file call = call ≡ Resize file 0
+
+-- The calls that hand nothing over. What a line writes into a record is said by what came of it (`Writing`).
 abbrev pub IsForLine : PlanLine → Call → Type 0
 IsForLine (line.Instance disk part) call = IsForImage disk call
 IsForLine (line.Blob file m) call = ⊥
 IsForLine (line.Apk disk apk idsig how) call = IsForMeasured disk how call
 IsForLine (line.File name file digest) call = call ≡ DescriptorOf file
-IsForLine (line.Write name file) call = ⊥
+IsForLine (line.Write name file) call = IsResize file call
 IsForLine (line.WriteDir name file) call = ⊥
 
 -- it is one of a line
@@ -155,7 +147,7 @@ most_before (line.Write name file) = 0
 most_before (line.WriteDir name file) = 0
 
 -- In its place, an APK device asks for the size of its disk, its two ends and its idsig, and gets or puts its record, where its
--- measure is in one; a file asks for its descriptor.
+-- measure is in one; a read-only file asks for its descriptor, and a writable one is cut.
 abbrev pub most_measured : How → ℕ
 most_measured (measures.Fixed m) = 4
 most_measured measures.First = 4
@@ -166,7 +158,7 @@ most_in_place (line.Instance disk part) = 0
 most_in_place (line.Blob file m) = 0
 most_in_place (line.Apk disk apk idsig how) = most_measured how
 most_in_place (line.File name file digest) = 1
-most_in_place (line.Write name file) = 0
+most_in_place (line.Write name file) = 1
 most_in_place (line.WriteDir name file) = 0
 
 abbrev pub most_of_line : PlanLine → ℕ
@@ -302,34 +294,38 @@ pub record FileBoots (s : Booted) (file : ℕ) (digest : Digest) (own : Exchange
   pub describes : file_opening.Describes file digest bytes opened
   pub new_is : new ≡ with_file s opened
 
+-- A writable file: it was cut to nothing at the host. Boot opens nothing for it.
+abbrev pub WriteBoots : Booted → ℕ → Exchanges → Booted → Type 0
+WriteBoots s file own new = (own ≡ (Resize file 0, Done) ∷ []) × (new ≡ s)
+
 -- From what was opened before, these exchanges and this line make this. The instance line makes nothing in its place, since its
--- image was opened before the lines.
+-- image was opened before the lines; nor does a writable directory, which is empty.
 abbrev pub LineBoots : Booted → PlanLine → Exchanges → Booted → Type 0
 LineBoots s (line.Instance disk part) own new = (own ≡ []) × (new ≡ s)
 LineBoots s (line.Blob file m) own new = (own ≡ []) × (new ≡ with_item s (device_on file m))
 LineBoots s (line.Apk disk apk idsig how) own new = ApkBootsBy s disk apk idsig how own new
 LineBoots s (line.File name file digest) own new = FileBoots s file digest own new
-LineBoots s (line.Write name file) own new = ⊥
-LineBoots s (line.WriteDir name file) own new = ⊥
+LineBoots s (line.Write name file) own new = WriteBoots s file own new
+LineBoots s (line.WriteDir name file) own new = (own ≡ []) × (new ≡ s)
 
 -- the exchanges are cut, in order and whole, into one part a line
 abbrev pub Boots : Booted → List PlanLine → Exchanges → Booted → Type 0
 Boots s [] own new = (own ≡ []) × (new ≡ s)
 Boots s (l ∷ lines) own new = (first : Exchanges) × (rest : Exchanges) × (mid : Booted) × (own ≡ first ++ rest) × LineBoots s l first mid × Boots mid lines rest new
 
--- its measure is in no record
-abbrev pub IsUnrecorded : PlanLine → Type 0
-IsUnrecorded (line.Instance disk part) = Unit {0}
-IsUnrecorded (line.Blob file m) = Unit {0}
-IsUnrecorded (line.Apk disk apk idsig (measures.Fixed m)) = Unit {0}
-IsUnrecorded (line.Apk disk apk idsig measures.First) = Unit {0}
-IsUnrecorded (line.Apk disk apk idsig (measures.Kept uuid)) = ⊥
-IsUnrecorded (line.File name file digest) = Unit {0}
-IsUnrecorded (line.Write name file) = Unit {0}
-IsUnrecorded (line.WriteDir name file) = Unit {0}
+-- boot only reads for it: it has no measure in a record, and no writable file
+abbrev pub OnlyReads : PlanLine → Type 0
+OnlyReads (line.Instance disk part) = Unit {0}
+OnlyReads (line.Blob file m) = Unit {0}
+OnlyReads (line.Apk disk apk idsig (measures.Fixed m)) = Unit {0}
+OnlyReads (line.Apk disk apk idsig measures.First) = Unit {0}
+OnlyReads (line.Apk disk apk idsig (measures.Kept uuid)) = ⊥
+OnlyReads (line.File name file digest) = Unit {0}
+OnlyReads (line.Write name file) = ⊥
+OnlyReads (line.WriteDir name file) = Unit {0}
 
-abbrev pub AreUnrecorded : List PlanLine → Type 0
-AreUnrecorded lines = AllByRecursion IsUnrecorded lines
+abbrev pub AllOnlyRead : List PlanLine → Type 0
+AllOnlyRead lines = AllByRecursion OnlyReads lines
 
 -- the image, the entropy and the writes are as before
 pub record RecordsStay (s new : Booted) : Type 0 where
@@ -337,9 +333,17 @@ pub record RecordsStay (s new : Booted) : Type 0 where
   pub entropy : new.entropy ≡ s.entropy
   pub writings : new.writings ≡ s.writings
 
--- Law: no other line changes these.
-abbrev pub OthersWriteNothing : Type 0
-OthersWriteNothing = (s : Booted) (lines : List PlanLine) (own : Exchanges) (new : Booted) → AreUnrecorded lines → Boots s lines own new → RecordsStay s new
+-- Law: such lines leave these as they are.
+abbrev pub ReadersWriteNothing : Type 0
+ReadersWriteNothing = (s : Booted) (lines : List PlanLine) (own : Exchanges) (new : Booted) → AllOnlyRead lines → Boots s lines own new → RecordsStay s new
+
+-- it asks for bytes or a number, and changes nothing at the host
+abbrev pub IsRead : Call → Type 0
+IsRead call = kind_of call ≡ kind_done → ⊥
+
+-- Law: nor does a call for them change anything at the host.
+abbrev pub ReadersOnlyRead : Type 0
+ReadersOnlyRead = (lines : List PlanLine) (call : Call) → AllOnlyRead lines → IsForLines lines call → IsRead call
 
 -- ---- what a plan makes: its instance line before all lines, wherever it stands, and then the lines in their order
 
@@ -498,6 +502,12 @@ FileFails file digest (File why) t = file_opening.OpenFileOutcome file digest (E
 FileFails file digest Memory t = (t.failed ≡ 0) × FileStops file digest t.own
 FileFails file digest other t = ⊥
 
+-- The call failed, and was the last; or the host had no memory for it.
+abbrev pub WriteFails : ℕ → BootCause → Trace → Type 0
+WriteFails file (Failed faults) t = (t.own ≡ []) × IsFailed (IsResize file) t faults
+WriteFails file Memory t = (t.own ≡ []) × IsScarce t
+WriteFails file other t = ⊥
+
 -- a device on a file of the host makes no call: only memory can be wanting
 abbrev pub BlobFails : BootCause → Type 0
 BlobFails Memory = Unit {0}
@@ -509,7 +519,7 @@ LineFails s (line.Instance disk part) why after t = ⊥
 LineFails s (line.Blob file m) why after t = (after ≡ s.writings) × (t.failed ≡ 0) × BlobFails why
 LineFails s (line.Apk disk apk idsig how) why after t = ApkFailsBy s disk apk idsig how why after t
 LineFails s (line.File name file digest) why after t = (after ≡ s.writings) × FileFails file digest why t
-LineFails s (line.Write name file) why after t = ⊥
+LineFails s (line.Write name file) why after t = (after ≡ s.writings) × WriteFails file why t
 LineFails s (line.WriteDir name file) why after t = ⊥
 
 -- the part was found, and opening its image came to this
@@ -601,6 +611,10 @@ ApkOutcome s disk apk idsig how new (Err why) t = ApkFails s disk apk idsig how 
 abbrev pub FileOutcome : Booted → ℕ → Digest → Booted → Result (Unit {0}) BootCause → Trace → Type 0
 FileOutcome s file digest new (Ok u) t = (t.failed ≡ 0) × FileBoots s file digest t.own new
 FileOutcome s file digest new (Err why) t = FileFails file digest why t
+
+abbrev pub WriteOutcome : ℕ → Result (Unit {0}) BootCause → Trace → Type 0
+WriteOutcome file (Ok u) t = (t.failed ≡ 0) × (t.own ≡ (Resize file 0, Done) ∷ [])
+WriteOutcome file (Err why) t = WriteFails file why t
 
 -- what one line made, or why it was not opened
 abbrev pub LineOutcome : Booted → PlanLine → Booted → Result (Unit {0}) BootCause → Trace → Type 0

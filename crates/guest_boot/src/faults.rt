@@ -32,7 +32,7 @@ pub enum BootCause {
     NoEntropy { left: u64 },
     /// The text of the record is not that of a measure.
     MeasureText,
-    /// A call for the disk's table failed; how often calls had failed after it.
+    /// A call for the disk's table failed, or the one that cuts a writable file; how often calls had failed after it.
     Failed { faults: u64 },
     /// An answer for the disk's table had fewer bytes than were asked for.
     Short { asked: u64, got: u64 },

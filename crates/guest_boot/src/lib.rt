@@ -13,6 +13,6 @@ mod words;
 
 pub use crate::entropy::Entropy;
 pub use crate::faults::{BootCause, BootFault};
-pub use crate::laws::{instances_are_alone, plans_are_served};
+pub use crate::laws::{instances_are_alone, plans_are_served, readers_change_nothing};
 pub use crate::lines::{Opened, open_lines};
 pub use crate::words::write_boot_end;

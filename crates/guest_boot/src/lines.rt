@@ -7,7 +7,7 @@ ghost use Rattle.guest_plan.specs.Spelling.{IsPlan, IsServed, IsMeasuredBy, IsDe
 ghost use Rattle.guest_boot.specs.Recording.{DidWriting};
 ghost use Rattle.guest_boot.specs.Finding.{AreSpans};
 ghost use Rattle.apk_verity.specs.Opening.{opening, IsIdsigCall};
-ghost use Rattle.guest_boot.specs.Booting.{IsBuilt, AreBuilt, AreItems, apk_cause, file_cause, measure_in, plain_of, means_of, IsForLine, most_in_place, IsForLines, most_of, IsForApk, IsForFound, IsForRecorded, BlobOutcome, ApkOutcome, FileOutcome, DeviceOutcome, MeasuredDone, FoundDone, RecordedDone, LineDone, BootOutcome};
+ghost use Rattle.guest_boot.specs.Booting.{AreItems, apk_cause, file_cause, measure_in, plain_of, means_of, IsResize, IsForLine, most_in_place, IsForLines, most_of, IsForApk, IsForFound, IsForRecorded, BlobOutcome, ApkOutcome, FileOutcome, WriteOutcome, DeviceOutcome, MeasuredDone, FoundDone, RecordedDone, LineDone, BootOutcome};
 
 use crate::entropy::Entropy;
 use crate::faults::{BootCause, BootFault};
@@ -16,7 +16,7 @@ use crate::records::{got_measure, keep_measure};
 use crate::tables::{DiskTable, parts_on};
 use apk_verity::{ApkFault, open_apk};
 use guest_plan::{How, Plan, PlanLine};
-use host_traits::{Host, Raw};
+use host_traits::{Host, HostError, Raw};
 use instance_image::{GetFault, Image};
 use mg_base::{Digest, Guid, Span};
 use ro_file::{RoFault, RoFile, open_file};
@@ -131,6 +131,21 @@ fn boot_file<H: Host>(
     match boot.files.push(opened) {
         Ok(()) => Ok(()),
         Err(_) => Err(BootCause::Memory),
+    }
+}
+
+// A writable file, which is cut to nothing at the host.
+fn boot_write<H: Host>(host: &mut H, file: u32) -> Result<(), BootCause>
+    ensures { Did (IsResize file) 1 (H.told host.old) (H.told host.new)
+        (WriteOutcome file result) }
+{
+    match host.file_resize(file, 0) {
+        Ok(()) => Ok(()),
+        Err(HostError::Failed) => {
+            let faults = host.faults();
+            Err(BootCause::Failed { faults })
+        }
+        Err(HostError::Memory) => Err(BootCause::Memory),
     }
 }
 
@@ -279,7 +294,7 @@ fn boot_recorded<H: Host>(
     boot_found(alloc, host, disk, parts, uuid, secret, boot, raw)
 }
 
-// One line in its place. The instance line makes nothing there: its image was opened before.
+// One line in its place. The instance line makes nothing there, since its image was opened before; nor does a writable directory.
 fn boot_line<H: Host>(
     alloc: Global,
     host: &mut H,
@@ -288,7 +303,6 @@ fn boot_line<H: Host>(
     boot: &mut Boot,
     raw: &mut Raw,
 ) -> Result<(), BootCause>
-    requires built { IsBuilt line.now }
     requires served { IsServed line.now }
     requires items { AreItems boot.old.items.items }
     ensures did { DidWriting (IsForLine line.now) (most_in_place line.now) (H.told host.old)
@@ -314,7 +328,8 @@ fn boot_line<H: Host>(
             file,
             digest,
         } => boot_file(host, *file, digest, boot, raw),
-        _ => unreachable!(),
+        PlanLine::Write { name: _, file } => boot_write(host, *file),
+        PlanLine::WriteDir { .. } => Ok(()),
     }
 }
 
@@ -322,7 +337,8 @@ fn boot_line<H: Host>(
 /// under the plan's salt. Then come the lines in their order. A `blob` line makes a device and calls nothing. An `apk` line reads
 /// its disk's table, unless that was read before, and opens the APK's part by its idsig's; where its measure is in a record, that is
 /// got before the APK is opened, or, where it is empty, put after it, sealed under the next 12 bytes of entropy. A `file` line opens a
-/// file by its digest. The first fault ends it, with the number of its line in the plan's text.
+/// file by its digest. A `write` line cuts a file to nothing, and a `writedir` line calls nothing. The first fault ends it, with the
+/// number of its line in the plan's text.
 pub fn open_lines<H: Host>(
     alloc: Global,
     host: &mut H,
@@ -331,7 +347,6 @@ pub fn open_lines<H: Host>(
     raw: &mut Raw,
 ) -> Result<Opened, BootFault>
     requires plan { (text : List ℕ) × IsPlan text (known plan.now) }
-    requires built { AreBuilt plan.now.lines.items }
     // The calls of the instance line and of the lines in their order, and what came of them.
     ensures booted { DidWriting (IsForLines plan.now.lines.items) (most_of plan.now.lines.items)
         (H.told host.old) (H.told host.new) (BootOutcome (means_of (known plan.now) entropy)

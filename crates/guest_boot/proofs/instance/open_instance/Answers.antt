@@ -1,4 +1,4 @@
-use Rattle.std.proofs.Common.{◌≡◌, ◌<◌, length, Some, refl, arith}
+use Rattle.std.proofs.Common.{◌≡◌, length, Some, refl, arith}
 use Rattle.std.proofs.lemmas.Option.{slice_get_read}
 use Rattle.guest_plan.specs.Plans.{known}
 use Rattle.guest_boot.specs.Booting.{InstanceLine, instance_in}

@@ -1,4 +1,4 @@
-use Rattle.guest_boot.proofs.Plans.{alone, plan_salted, stays}
+use Rattle.guest_boot.proofs.Plans.{alone, plan_salted}
 use Rattle.guest_boot.proofs.Instances.{stands}
 use Rattle.guest_boot.proofs.laws.instances_are_alone.Goals as goal
 
@@ -10,6 +10,3 @@ returns-clause-alone c = alone
 
 pub returns-clause-salted : goal.returns-clause-salted
 returns-clause-salted c = plan_salted
-
-pub returns-clause-stays : goal.returns-clause-stays
-returns-clause-stays c = stays

@@ -1,6 +1,6 @@
 use Rattle.std.proofs.Common.{subst, sym}
 use Rattle.guest_boot.specs.Booting.{AreItems}
-use Rattle.guest_boot.proofs.Makes.{device_refused, device_added, device_memory, items_push}
+use Rattle.guest_boot.proofs.Makes.{device_added, items_push}
 use Rattle.guest_boot.proofs.lines.add_device.Goals as goal
 
 pub returns-in-Ok-push-clause-did : goal.returns-in-Ok-push-clause-did

@@ -5,7 +5,7 @@ use Rattle.guest_plan.specs.declared.plan.PlanLine.TheVariants as line
 use Rattle.std.specs.Global.{Vec}
 use Rattle.verity_path.specs.declared.device.Device.{Device}
 use Rattle.guest_boot.specs.Booting.{AreItems}
-use Rattle.guest_boot.proofs.Outcomes.{did_line, did_instance, did_blob, did_apk, did_recorded, did_file}
+use Rattle.guest_boot.proofs.Outcomes.{did_line, did_instance, did_blob, did_apk, did_recorded, did_file, did_write, did_writedir}
 use Rattle.guest_boot.proofs.lines.boot_line.Goals as goal
 
 pub returns-in-Instance-clause-did : goal.returns-in-Instance-clause-did
@@ -22,10 +22,10 @@ returns-in-Kept-clause-did g c =
     did_line c.args.secret.now c.args.boot.now c.boot_recorded.new.boot _ _ c.boot_recorded.result c.args.line.now l is
     (did_recorded c.args.secret.now c.args.boot.now c.boot_recorded.new.boot _ _ c.in-Apk.disk c.in-Apk.apk c.in-Apk.idsig c.in-Kept.uuid c.boot_recorded.result c.boot_recorded.ensures.did)
 
-pub returns-in_default-how : goal.returns-in_default-how
-returns-in_default-how g c = record {
+pub returns-in_default : goal.returns-in_default
+returns-in_default g c = record {
   did = did_line c.args.secret.now c.args.boot.now c.boot_apk.new.boot _ _ c.boot_apk.result c.args.line.now (line.Apk c.in-Apk.disk c.in-Apk.apk c.in-Apk.idsig c.in-Apk.how) c.in-Apk.is
-      (did_apk c.args.secret.now c.args.boot.now c.boot_apk.new.boot _ _ c.in-Apk.disk c.in-Apk.apk c.in-Apk.idsig c.in-Apk.how c.boot_apk.result c.in_default-how.not-Kept c.boot_apk.ensures.did);
+      (did_apk c.args.secret.now c.args.boot.now c.boot_apk.new.boot _ _ c.in-Apk.disk c.in-Apk.apk c.in-Apk.idsig c.in-Apk.how c.boot_apk.result c.in_default.not-Kept c.boot_apk.ensures.did);
   items = c.boot_apk.ensures.items;
 }
 
@@ -34,3 +34,10 @@ returns-in-File-clause-did g c = did_line c.args.secret.now c.args.boot.now c.bo
 
 pub returns-in-File-clause-items : goal.returns-in-File-clause-items
 returns-in-File-clause-items g c = subst (λ (v : Vec Device). AreItems v.items) (sym c.boot_file.ensures.items) c.requires.items
+
+pub returns-in-Write-clause-did : goal.returns-in-Write-clause-did
+returns-in-Write-clause-did g c = did_line c.args.secret.now c.args.boot.now c.args.boot.now _ _ _ _ _ c.in-Write.is (did_write c.args.secret.now c.args.boot.now _ _ c.in-Write.name c.in-Write.file c.boot_write.result c.boot_write.ensures)
+
+pub returns-in-WriteDir-clause-did : goal.returns-in-WriteDir-clause-did
+returns-in-WriteDir-clause-did g c =
+    did_line c.args.secret.now c.args.boot.now c.args.boot.now _ _ (Ok tt) c.args.line.now _ c.in-WriteDir.is (did_writedir c.args.secret.now c.args.boot.now c.args.boot.now _ c.in-WriteDir.name c.in-WriteDir.file)

@@ -1,4 +1,4 @@
-use Rattle.std.proofs.Common.{Option, Ok, Err, refl, subst}
+use Rattle.std.proofs.Common.{Option, Ok, Err, subst}
 use Rattle.host_traits.specs.Did.{Did}
 use Rattle.sha_tree.specs.declared.measure.Measure.{Measure}
 use Rattle.apk_verity.specs.Opening.{opening, IsIdsigCall}

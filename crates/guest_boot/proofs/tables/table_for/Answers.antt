@@ -1,5 +1,5 @@
 use Rattle.std.proofs.Common.{arith}
-use Rattle.guest_boot.proofs.Finds.{known_before, not_read, read_now, no_room}
+use Rattle.guest_boot.proofs.Finds.{known_before, read_now, no_room}
 use Rattle.guest_boot.proofs.tables.table_for.Goals as goal
 
 pub returns-in-Some-clause-did : goal.returns-in-Some-clause-did
