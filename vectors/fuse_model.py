@@ -28,10 +28,14 @@ class File:
 
     def __init__(self, name, number, content, salt=b""):
         self.name, self.number, self.content = name, number, content
+        self.size = len(content)
         self.device = Device(content.ljust(-(-len(content) // PAGE) * PAGE, b"\0"), salt) if content else None
         self.descriptor = descriptor(len(content), self.device.root if content else bytes(32), salt)
         self.line = f"file {name} {number} {hashlib.sha256(self.descriptor).hexdigest()}\n"
         self.boot = told(self.descriptor)
+
+    def slice(self, at, size):
+        return self.content[at:at + size]
 
     def pages(self, at, size):
         """Level, index and bytes of each answer that a read asks for; the last block is cut at the file's end."""
@@ -48,21 +52,34 @@ class Written:
     mode, boot = WRITABLE, DONE
 
     def __init__(self, name, number):
-        self.name, self.number, self.content = name, number, bytearray()
+        self.name, self.number, self.size, self.pages = name, number, 0, {}
         self.line = f"write {name} {number}\n"
 
     def block(self, index):
         """The bytes that the file has in a block."""
-        return bytes(self.content[PAGE * index:PAGE * (index + 1)])
+        return bytes(self.pages.get(index, bytes(PAGE))[:max(self.size - PAGE * index, 0)])
 
     def put(self, at, data):
-        """Bytes in their place, and zeros between the end and them."""
-        self.content.extend(bytes(max(at + len(data) - len(self.content), 0)))
-        self.content[at:at + len(data)] = data
+        """Bytes of one block in their place, and zeros between the end and them."""
+        page = self.pages.setdefault(at // PAGE, bytearray(PAGE))
+        page[at % PAGE:at % PAGE + len(data)] = data
+        self.size = max(self.size, at + len(data))
 
     def cut(self, size):
-        del self.content[size:]
-        self.content.extend(bytes(size - len(self.content)))
+        self.pages = {index: page for index, page in self.pages.items() if PAGE * index < size}
+        if size % PAGE and size // PAGE in self.pages:
+            self.pages[size // PAGE][size % PAGE:] = bytes(PAGE - size % PAGE)
+        self.size = size
+
+    def slice(self, at, size):
+        """The bytes from a place on, cut at the end."""
+        end = min(at + size, self.size)
+        first = at // PAGE
+        return b"".join(self.block(index).ljust(PAGE, b"\0") for index in range(first, -(-end // PAGE)))[at - PAGE * first:end - PAGE * first] if at < end else b""
+
+    @property
+    def content(self):
+        return self.slice(0, self.size)
 
 
 class Server:
@@ -128,7 +145,7 @@ class Server:
         self.held(node, fh)
 
     def attr(self, node):
-        return (node, len(self.files[node].content), self.files[node].mode) if node != 1 else (node, 0, DIRECTORY)
+        return (node, self.files[node].size, self.files[node].mode) if node != 1 else (node, 0, DIRECTORY)
 
     def init(self, node, major, minor, readahead, flags):
         if self.ready or (major, minor) < (7, 31):
@@ -177,9 +194,9 @@ class Server:
             raise Refused("EACCES")
         if size > LARGEST:
             raise Refused("EFBIG")
-        if size == len(file.content):
+        if size == file.size:
             return
-        if size < len(file.content) and size % PAGE:
+        if size < file.size and size % PAGE:
             self.load(file, size // PAGE)
         self.done()
         file.cut(size)
@@ -239,13 +256,13 @@ class Server:
         self.handle(node, fh)
         file = self.files[node]
         if file.mode == WRITABLE:
-            end = min(offset + size, len(file.content))
+            end = min(offset + size, file.size)
             for index in range(offset // PAGE, -(-end // PAGE)) if offset < end else ():
                 self.load(file, index)
         else:
             for level, index, page in file.pages(offset, size):
                 self.judge(file.device.hash, level, index, self.call(told(page)), page, file.device.levels[level][index])
-        return bytes(file.content[offset:offset + size])
+        return file.slice(offset, size)
 
     def judge(self, hash_page, level, index, record, wanted, page):
         """A record of the tape as the answer to a call for these bytes of a page: no record, one of another kind, a short one, a wrong
@@ -273,7 +290,7 @@ class Server:
             start = PAGE * index
             first, last = max(offset, start), min(end, start + PAGE)
             try:
-                if start < len(file.content) and (first > start or last < min(start + PAGE, len(file.content))):
+                if start < file.size and (first > start or last < min(start + PAGE, file.size)):
                     self.load(file, index)
                 self.done()
             except Refused:

@@ -19,7 +19,7 @@ def opened(*files):
     session = Session(*files)
     session.ask("init", 0, **INIT)
     for node, file in enumerate(files, 2):
-        session.ask("lookup", 1, ("entry", node, node, len(file.content), file.mode), name=file.name.encode())
+        session.ask("lookup", 1, ("entry", node, node, file.size, file.mode), name=file.name.encode())
         session.ask("open", node, ("opened", node - 1), flags=0 if file.mode == FILE else 2)
     return session
 
@@ -37,7 +37,7 @@ def kept(session, name, why):
             files[f"content{file.number}"] = file.content
         else:
             store += f"empty {file.number}\nkeep file {file.number} kept{file.number}\n"
-            stored[f"kept{file.number}"] = bytes(file.content)
+            stored[f"kept{file.number}"] = file.content
     files["store"] = store.encode()
     return case(name, why, files, ran("serve plan store entropy tape", 0, session.replies, session.log, session.stream, stored),
                 ran("replay plan tape entropy", 0, session.replies, session.log, session.stream))
@@ -192,6 +192,16 @@ def places():
     session.ask("setattr", 2, ("attr", 2, 20_000_001, WRITABLE), valid=8, size=20_000_001)
     session.ask("read", 2, b"\0a", fh=1, offset=19_999_999, size=MOST)
     yield kept(session, "a large size", "40,000,000 zeros by one call, with a WRITE among them, and cut behind it")
+    session = one()
+    session.ask("write", 2, ("written", 1), fh=1, offset=LARGEST - 1, data=b"z")
+    session.ask("read", 2, bytes(4) + b"z", fh=1, offset=LARGEST - 5, size=MOST)
+    session.ask("write", 2, ("written", 9), fh=1, offset=LARGEST - 9, data=b"the limit")
+    session.ask("read", 2, bytes(3) + b"the limit", fh=1, offset=LARGEST - 12, size=12)
+    session.ask("setattr", 2, ("attr", 2, LARGEST, WRITABLE), valid=8, size=LARGEST)
+    session.ask("setattr", 2, ("attr", 2, 2**31, WRITABLE), valid=8, size=2**31)
+    session.ask("setattr", 2, ("attr", 2, LARGEST, WRITABLE), valid=8, size=LARGEST)
+    session.ask("read", 2, bytes(12), fh=1, offset=LARGEST - 12, size=12)
+    yield ended(session, "the largest file", "bytes that end at 2^32, the size 2^32, and half of it")
 
 
 def bends():
@@ -200,7 +210,7 @@ def bends():
         session = one()
         session.ask("write", 2, ("written", 3 * PAGE - 96), fh=1, data=counted(3 * PAGE - 96))
         session.ask(word, 2, None, {call: record}, **fields)
-        session.ask("read", 2, bytes(session.server.files[2].content), fh=1, size=MOST)
+        session.ask("read", 2, session.server.files[2].content, fh=1, size=MOST)
         return session
     for word, calls, fields in (("read", 2, dict(fh=1, offset=4090, size=12)), ("write", 5, dict(fh=1, offset=4090, data=b"\x5a" * 8000)),
                                 ("setattr", 2, dict(valid=8, size=5000))):
@@ -234,7 +244,7 @@ def drawn(first):
     for _ in range(60):
         node = pick.of(2, 2, 4, 3)
         word = pick.of("write", "write", "write", "read", "read", "setattr", "fsync", "getattr")
-        near = pick.of(0, PAGE, 2 * PAGE, 3 * PAGE, len(session.server.files[node].content))
+        near = pick.of(0, PAGE, 2 * PAGE, 3 * PAGE, session.server.files[node].size)
         offset = max(near + pick(9) - 4, 0) if pick(2) else pick(12_000)
         fields = {}
         if word in ("write", "read", "fsync"):
@@ -249,7 +259,7 @@ def drawn(first):
         bend = {pick(5): pick.of(FAILED, DONE, told(b""), told(b"xyz"), told(bytes(4096)))} if pick(4) == 0 else {}
         session.ask(word, node, None, bend, **fields)
     for node in (2, 3, 4):
-        session.ask("read", node, bytes(session.server.files[node].content), fh=node - 1, size=MOST)
+        session.ask("read", node, session.server.files[node].content, fh=node - 1, size=MOST)
     return session
 
 

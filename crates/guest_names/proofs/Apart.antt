@@ -98,21 +98,33 @@ more_differ (Some f) None files all one = all
 more_differ (Some f) (Some g) files all one = (one f g refl refl, all)
 
 -- the name and the number that a line gives a file
-named_file : List ℕ → ℕ → Option Digest → NamedFile
+abbrev named_file : List ℕ → ℕ → Option Digest → NamedFile
 named_file name number digest = record { name = name; number = number; digest = digest }
 
 names_differ : (name other : List ℕ) (file number : ℕ) (d e : Option Digest) (f g : NamedFile) → ((number == file) || bytes_eq other name || false) ≡ false → f ≡ named_file name file d → g ≡ named_file other number e → Differs f g
 names_differ name other file number d e f g off one two = rw (one, two) (differs (named_file name file d) (named_file other number e) (number == file) (bytes_eq other name) false off refl refl)
 
 two_differ : (l m : PlanLine) → clash m l ≡ false → (f g : NamedFile) → file_in l ≡ Some f → file_in m ≡ Some g → Differs f g
-two_differ (line.File name file digest) (line.File other number root) off f g is are = names_differ name other file number (Some digest) (Some root) f g off cc cc
-two_differ (line.File name file digest) (line.Write other number) off f g is are = names_differ name other file number (Some digest) None f g off cc cc
+two_differ (line.File name file digest) (line.File other number root) off f g is are =
+    let one : f ≡ named_file name file (Some digest) = cc in
+    let two : g ≡ named_file other number (Some root) = cc in
+    names_differ name other file number (Some digest) (Some root) f g off one two
+two_differ (line.File name file digest) (line.Write other number) off f g is are =
+    let one : f ≡ named_file name file (Some digest) = cc in
+    let two : g ≡ named_file other number None = cc in
+    names_differ name other file number (Some digest) None f g off one two
 two_differ (line.File name file digest) (line.Instance disk part) off f g is are = absurd cc
 two_differ (line.File name file digest) (line.Blob at measure) off f g is are = absurd cc
 two_differ (line.File name file digest) (line.Apk disk apk idsig how) off f g is are = absurd cc
 two_differ (line.File name file digest) (line.WriteDir other at) off f g is are = absurd cc
-two_differ (line.Write name file) (line.File other number root) off f g is are = names_differ name other file number None (Some root) f g off cc cc
-two_differ (line.Write name file) (line.Write other number) off f g is are = names_differ name other file number None None f g off cc cc
+two_differ (line.Write name file) (line.File other number root) off f g is are =
+    let one : f ≡ named_file name file None = cc in
+    let two : g ≡ named_file other number (Some root) = cc in
+    names_differ name other file number None (Some root) f g off one two
+two_differ (line.Write name file) (line.Write other number) off f g is are =
+    let one : f ≡ named_file name file None = cc in
+    let two : g ≡ named_file other number None = cc in
+    names_differ name other file number None None f g off one two
 two_differ (line.Write name file) (line.Instance disk part) off f g is are = absurd cc
 two_differ (line.Write name file) (line.Blob at measure) off f g is are = absurd cc
 two_differ (line.Write name file) (line.Apk disk apk idsig how) off f g is are = absurd cc

@@ -1,5 +1,5 @@
 -- The files that stand, and how they were opened.
-use Rattle.std.proofs.Common.{◌≡◌, ℕ, zero, suc, Bool, true, false, cond, List, [], ◌∷◌, ◌++◌, length, Option, Some, None, refl, sym, ◌∙◌, subst, inl, inr, arith, Ordering, Less, Equal, Greater}
+use Rattle.std.proofs.Common.{◌≡◌, ℕ, zero, suc, Bool, true, false, cond, List, [], ◌∷◌, ◌++◌, length, Option, Some, None, refl, sym, ◌∙◌, ap, subst, inl, inr, arith, Ordering, Less, Equal, Greater}
 use Rattle.std.specs.Prelude.{nat_eq, slice_get, IsSome, ◌⊎◌, ◌==◌}
 use Rattle.std.specs.List.{AllByRecursion}
 use Rattle.std.specs.Ordering.{nat_cmp, is_eq, match_ordering}
@@ -24,7 +24,7 @@ eq_of : (a b : ℕ) → nat_eq a b ≡ true → a ≡ b
 eq_of a b e = grind (arith, nat_tests)
 
 module _ {X : Type 0} where
-  at : List (ℕ × X) → ℕ → Option X
+  abbrev at : List (ℕ × X) → ℕ → Option X
   at files n = lookup (is_at (nat_cmp n)) files
 
   equal : (files : List (ℕ × X)) (k n : ℕ) (e : ℕ × X) (o : X) (b : Bool) → nat_eq n k ≡ b → nat_eq n e.0 ≡ b

@@ -1,6 +1,6 @@
 -- The names that are found, and that what stands is sound.
 use Rattle.std.proofs.Common.{if◌then◌else◌, ◌≡◌, ◌≤◌, ◌+◌, ℕ, suc, Bool, true, false, List, [], ◌∷◌, ◌++◌, length, Option, Some, None, Ok, refl, sym, ap, ◌∙◌, subst, inl, inr, arith, append_assoc}
-use Rattle.std.specs.Prelude.{nat_eq, ◌⊎◌, IsSome}
+use Rattle.std.specs.Prelude.{nat_eq, slice_get, ◌⊎◌, IsSome}
 use Rattle.std.specs.List.{AllByRecursion}
 use Rattle.std.specs.Option.{option_map}
 use Rattle.std.specs.Cmp.Lexicographic.{pointwise}
@@ -80,12 +80,14 @@ first_name l lines f c n node name true file e rest is = record {
 }
 first_name l lines f c n node name false file e rest is = later_name l lines name (rest is)
 
+by_line : (l : PlanLine) (lines : List PlanLine) (c n node : ℕ) (name : List ℕ) → ((d m : ℕ) → node_named name (entries_from d m (files_in lines)) ≡ Some node → IsPlannedName lines name)
+    → (o : Option NamedFile) → file_in l ≡ o → node_named name (entries_from c n (and_files o (files_in lines))) ≡ Some node → IsPlannedName (l ∷ lines) name
+by_line l lines c n node name later None e there = later_name l lines name (later c n there)
+by_line l lines c n node name later (Some f) e there = first_name l lines f c n node name (pointwise nat_eq name f.name) e refl (later (c + 1) (n + 1)) there
+
 other_name : (lines : List PlanLine) (c n node : ℕ) (name : List ℕ) → node_named name (entries_from c n (files_in lines)) ≡ Some node → IsPlannedName lines name
 other_name [] c n node name is = absurd cc
-other_name (l ∷ lines) c n node name is = by (file_in l) refl is where
-  by : (o : Option NamedFile) → file_in l ≡ o → node_named name (entries_from c n (and_files o (files_in lines))) ≡ Some node → IsPlannedName (l ∷ lines) name
-  by None e there = later_name l lines name (other_name lines c n node name there)
-  by (Some f) e there = first_name l lines f c n node name (pointwise nat_eq name f.name) e refl (other_name lines (c + 1) (n + 1) node name) there
+other_name (l ∷ lines) c n node name is = by_line l lines c n node name (λ d m. other_name lines d m node name) (file_in l) refl is
 
 pub no_other : NoOtherName
 no_other lines name node is =
