@@ -1,6 +1,6 @@
 -- What a host that holds the bytes of the writable files holds after a request.
 use Rattle.std.proofs.Common.{◌≡◌, ◌≢◌, ℕ, Bool, true, false, List, [], ◌∷◌, refl, ap, sym, subst, ◌∙◌, Option, Some, None, Result, Ok, Err, arith, inl, inr, ⊎_elim}
-use Rattle.std.specs.Prelude.{◌⊎◌, nat_eq}
+use Rattle.std.specs.Prelude.{◌⊎◌, nat_eq, cond}
 use Rattle.std.proofs.lemmas.Map.{update_other}
 use Rattle.std.proofs.lemmas.Bool.Decides.{nat_tests}
 use Rattle.mg_base.specs.declared.errno.Errno.{Errno}
@@ -17,7 +17,7 @@ use Rattle.verity_path.specs.Range.{IsForRead}
 use Rattle.verity_path.specs.declared.walk.Layout.{Layout}
 use Rattle.sha_tree.specs.declared.measure.Measure.{Measure}
 use Rattle.rw_file.specs.Contents.{IsAtHost}
-use Rattle.fuse_server.specs.State.{State as Fuse}
+use Rattle.fuse_server.specs.State.{State as Fuse, WritableFile, writable_at, replaced}
 use Rattle.fuse_server.specs.Aims.{Aim, says, makes, reads, loads, writes, cuts, syncs, aim_of}
 use Rattle.fuse_server.specs.Rows.{IsForFuse}
 use Rattle.fuse_server.specs.Serving.{AreNumbered}
@@ -29,7 +29,7 @@ use Rattle.guest_rules.specs.Step.{IsFor, heard_in}
 use Rattle.guest_rules.specs.Written.{FileBytes, bytes_after, Agrees, HostsAgree, RunsAgree}
 use Rattle.guest_rules.proofs.Devices.{page_reads}
 use Rattle.guest_rules.proofs.Holding.{IsReading, of_blocks, of_file, pair_is, reading_keeps}
-use Rattle.guest_rules.proofs.Writing.{IsOther, IsOtherFile, AreSame, AreLeft, replaced_at, now_stand, turn_is}
+use Rattle.guest_rules.proofs.Writing.{IsOther, IsOtherFile, AreSame, AreLeft, eq_of, some_is, found_then, replaced_at, now_stand, turn_is}
 
 -- a call that leaves the bytes of a file: it reads, or writes sectors, or another file
 pub data IsLeaving (file : ℕ) : Call → Type 0 where
@@ -136,14 +136,22 @@ now_numbered s new h Other bytes after numbered (inr l) = subst AreNumbered (sym
 now_held : (s new : Fuse) (h : Heard) (Other : ℕ → Type 0) (bytes after : FileBytes) (number : ℕ) → AreNumbered s.writables
     → ((file : ℕ) (c : List ℕ) → Other file → IsAtHost h.before file c → IsAtHost h.after file c)
     → Agrees h.before s.writables bytes number → AreSame s new Other bytes after ⊎ AreLeft s new h Other bytes after → Agrees h.after new.writables after number
-now_held s new h Other bytes after number numbered stays agree (inl l) =
-    subst (λ z. Agrees h.after z after number) (sym l.files) (subst (λ (b : FileBytes). Agrees h.after s.writables b number) (sym l.bytes_are) (λ f at. stays f.file (bytes number) (l.others f.file) (agree f at)))
-now_held s new h Other bytes after number numbered stays agree (inr l) = subst (λ z. Agrees h.after z after number) (sym l.files) (λ f at.
-    replaced_at s.writables l.number number l.file l.other f l.there at (λ z. IsAtHost h.after z.file (after number))
-    (λ e here. subst (λ (k : ℕ). IsAtHost h.after l.other.file (after k)) (sym e) (subst (λ (k : ℕ). IsAtHost h.after k (after l.number)) (sym l.file_is)
-    (l.left.agree (subst (λ (k : ℕ). Agrees h.before s.writables bytes k) e agree l.file l.there))))
-    (λ other was. subst (λ (c : List ℕ). IsAtHost h.after f.file c) (sym (l.same number other))
-    (stays f.file (bytes number) (l.others f.file (apart_of number l.number f.file l.file.file other (numbered number f was) (numbered l.number l.file l.there))) (agree f was))))
+now_held s new h Other bytes after number numbered stays (f, at, held) (inl l) =
+    (f, subst (λ z. writable_at z number ≡ Some f) (sym l.files) at, subst (λ (b : FileBytes). IsAtHost h.after f.file (b number)) (sym l.bytes_are) (stays f.file (bytes number) (l.others f.file) held))
+now_held s new h Other bytes after number numbered stays (f, at, held) (inr l) = subst (λ z. Agrees h.after z after number) (sym l.files) (by_key (nat_eq number l.number) refl) where
+  found_by : (b : Bool) → nat_eq number l.number ≡ b → writable_at (replaced l.number l.other s.writables) number ≡ cond b (Some l.other) (writable_at s.writables number)
+  found_by b e = found_then s.writables l.number number l.file l.other l.there ∙ ap (λ (v : Bool). cond v (Some l.other) (writable_at s.writables number)) e
+
+  by_key : (b : Bool) → nat_eq number l.number ≡ b → Agrees h.after (replaced l.number l.other s.writables) after number
+  by_key true e =
+      let same : number ≡ l.number = eq_of number l.number e in
+      let own : f ≡ l.file = some_is f l.file (sym at ∙ ap (λ (k : ℕ). writable_at s.writables k) same ∙ l.there) in
+      let before : IsAtHost h.before l.file.file (bytes l.number) = subst (λ (k : ℕ). IsAtHost h.before l.file.file (bytes k)) same (subst (λ (z : WritableFile). IsAtHost h.before z.file (bytes number)) own held) in
+      let now : IsAtHost h.after l.other.file (after l.number) = subst (λ (k : ℕ). IsAtHost h.after k (after l.number)) (sym l.file_is) (l.left.agree before) in
+      (l.other, found_by true e, subst (λ (k : ℕ). IsAtHost h.after l.other.file (after k)) (sym same) now)
+  by_key false e =
+      let apart = apart_of number l.number f.file l.file.file e (numbered number f at) (numbered l.number l.file l.there) in
+      (f, found_by false e ∙ at, subst (λ (c : List ℕ). IsAtHost h.after f.file c) (sym (l.same number e)) (stays f.file (bytes number) (l.others f.file apart) held))
 
 pub hosts_agree : HostsAgree
 hosts_agree g world old turn new bytes number step numbered stand clear agree =

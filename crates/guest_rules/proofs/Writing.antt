@@ -39,7 +39,7 @@ use Rattle.guest_rules.proofs.Standing.{put_keeps}
 
 -- ---- another file at a number
 
-eq_of : (a b : ℕ) → nat_eq a b ≡ true → a ≡ b
+pub eq_of : (a b : ℕ) → nat_eq a b ≡ true → a ≡ b
 eq_of a b e = grind (arith, nat_tests)
 
 key_is : (n k : ℕ) → is_eq (nat_cmp n k) ≡ nat_eq k n
@@ -48,24 +48,25 @@ key_is n k = grind (arith, common_steps)
 same_key : (n x y : ℕ) → is_eq (nat_cmp n x) ≡ true → is_eq (nat_cmp n y) ≡ is_eq (nat_cmp x y)
 same_key n x y e = let same : x ≡ n = eq_of x n (sym (key_is n x) ∙ e) in ap (λ (k : ℕ). is_eq (nat_cmp k y)) (sym same)
 
-some_is : {A : Type 0} (x y : A) → Some x ≡ Some y → x ≡ y
+pub some_is : {A : Type 0} (x y : A) → Some x ≡ Some y → x ≡ y
 some_is x y e = cc
 
 is_some : {A : Type 0} (o : Option A) (x : A) → o ≡ Some x → IsSome o
 is_some o x e = rw e refl
 
-module _ (files : Writables) (n m : ℕ) (f new g : WritableFile) (there : writable_at files n ≡ Some f) (at : writable_at (replaced n new files) m ≡ Some g) where
-  looked_up : cond (nat_eq m n) (Some new) (writable_at files m) ≡ Some g
-  looked_up =
-      ap (λ (b : Bool). cond b (Some new) (writable_at files m)) (sym (key_is n m))
-      ∙ sym (lookup-set_value {eq = eq_by_cmp nat_cmp} (eq_by_cmp_equiv nat_cmp_total) (is_at (nat_cmp n)) (same_key n) m new files (is_some (writable_at files n) f there)) ∙ at
+-- what is found then: the new one at its number, and elsewhere what was there
+pub found_then : (files : Writables) (n m : ℕ) (f new : WritableFile) → writable_at files n ≡ Some f → writable_at (replaced n new files) m ≡ cond (nat_eq m n) (Some new) (writable_at files m)
+found_then files n m f new there =
+    lookup-set_value {eq = eq_by_cmp nat_cmp} (eq_by_cmp_equiv nat_cmp_total) (is_at (nat_cmp n)) (same_key n) m new files (is_some (writable_at files n) f there)
+    ∙ ap (λ (b : Bool). cond b (Some new) (writable_at files m)) (key_is n m)
 
-  -- a file that is there then is the new one at its number, or the one that was there
-  pub replaced_at : (Q : WritableFile → Type 0) → (m ≡ n → nat_eq m n ≡ true → Q new) → (nat_eq m n ≡ false → writable_at files m ≡ Some g → Q g) → Q g
-  replaced_at Q here other = by_key (nat_eq m n) refl looked_up where
-    by_key : (b : Bool) → nat_eq m n ≡ b → cond b (Some new) (writable_at files m) ≡ Some g → Q g
-    by_key true e l = subst Q (some_is new g l) (here (eq_of m n e) e)
-    by_key false e l = other e l
+-- so a file that is there is the new one, or the one that was there
+pub replaced_at : (files : Writables) (n m : ℕ) (f new g : WritableFile) → writable_at files n ≡ Some f → writable_at (replaced n new files) m ≡ Some g → (Q : WritableFile → Type 0)
+    → (m ≡ n → nat_eq m n ≡ true → Q new) → (nat_eq m n ≡ false → writable_at files m ≡ Some g → Q g) → Q g
+replaced_at files n m f new g there at Q here other = by_key (nat_eq m n) refl (sym (found_then files n m f new there) ∙ at) where
+  by_key : (b : Bool) → nat_eq m n ≡ b → cond b (Some new) (writable_at files m) ≡ Some g → Q g
+  by_key true e l = subst Q (some_is new g l) (here (eq_of m n e) e)
+  by_key false e l = other e l
 
 -- ---- what a request on a writable file leaves
 

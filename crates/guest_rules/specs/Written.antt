@@ -133,9 +133,9 @@ WritesAreRead = (g : Setting) (world : World) (old : Moment) (turns : List Turn)
 
 -- ---- over a host that holds them
 
--- the host holds the bytes of the writable file at a number, where there is one
+-- there is a writable file at a number, and the host holds its bytes
 abbrev pub Agrees : Option Held → Writables → FileBytes → ℕ → Type 0
-Agrees held files bytes number = (f : WritableFile) → writable_at files number ≡ Some f → IsAtHost held f.file (bytes number)
+Agrees held files bytes number = (f : WritableFile) × (writable_at files number ≡ Some f) × IsAtHost held f.file (bytes number)
 
 -- Law: where the host holds the bytes of a writable file, each request leaves it so, whatever fails: what the host holds of the file
 -- is what was written with success.
