@@ -28,7 +28,7 @@ use Rattle.rw_file.specs.Contents.{Meaning, meaning, IsAtHost, IsFileHashed, Onl
 use Rattle.rw_file.specs.Calls.{block_read, read_calls, IsForFileRead, most_read}
 use Rattle.rw_file.specs.Asked.{AreAsked}
 use Rattle.rw_file.specs.Blame.{Each, IsFileBlame}
-use Rattle.rw_file.specs.Rows.{IsNow, IsKept, ReadOutcome, because, FaultSays}
+use Rattle.rw_file.specs.Rows.{IsNow, IsUnread, ReadOutcome, because, FaultSays}
 use Rattle.rw_file.specs.Steps.{IsForBlock, BringOutcome, ServeOutcome, IsServedTo, block_reads}
 use Rattle.rw_file.proofs.Bytes.{lt_or_le, get_or-block, length-block}
 use Rattle.rw_file.proofs.Hashed.{each_more, apart_fewer, file_hashed}
@@ -241,16 +241,16 @@ module _ (is_local : Type 0) (file size offset len end : ℕ) (end_is : end ≡ 
         ∙ ap (λ (k : ℕ). block_reads file size offset k) (before ∙ sym (touched_some offset end some))
         ∙ ap (λ (e : ℕ). read_calls file size offset e) end_is
 
-    pub read_bad : (left new : List ℕ) (from_at to_at : ℕ) (w : WalkFault) →
+    pub read_bad : (left new : List ℕ) (from_at to_at : ℕ) (w : WalkFault) → left ≡ bytes →
         Worked HandsPage 0 (IsForBlock is_local file size index) (top (block_count size) + 1) y z
         (ServeOutcome is_local file size index from_at to_at (meaning size stands) (meaning size stands2) y.held z.held bytes new (Err w)) →
         Worked HandsPage 0 (IsForFileRead is_local file size offset len) (most_read size offset len) x z (ReadOutcome is_local file size offset len (meaning size first) (meaning size stands2) x.held z.held left (Err (because w)))
-    read_bad left new from_at to_at w e =
+    read_bad left new from_at to_at w left_is e =
         let last : index + 1 - offset / 4096 ≤ (end + 4095) / 4096 - offset / 4096 = omega arith in
         let low = mul-le-mul_right (top (block_count size) + 1) last in
         let both : answers index + (top (block_count size) + 1) ≤ most_read size offset len = rw (all_answers, more_answers index from) low in
         worked_so _ _ _ _ _ _ x z _ _ (worked_then _ _ _ _ _ _ x y z _ _ _ d (worked_so _ _ _ _ _ _ y z _ _ e wider (omega arith) (λ t q. q)) (λ t p. p.failed) (λ a b failed le p q.
-        says_because (IsKept is_local file (IsForFileRead is_local file size offset len) (read_calls file size offset (end_of size offset len)) (meaning size first) (meaning size stands2) x.held z.held (trace_of (a ++ b) failed x z)) _ _ w (record {
+        says_because (IsUnread is_local file size offset len (meaning size first) (meaning size stands2) x.held z.held left (trace_of (a ++ b) failed x z)) _ _ w (record {
           kept = λ c is n.
               let early = each_more (meaning size first) Only Only a (a ++ b) _ (λ c v e. e) (piece_left a b) p.content c is n in
               let late = each_more (meaning size stands) Only Only b (a ++ b) _ (λ c v e. e) (piece_right a b) q.kept c early.0.now n in
@@ -264,6 +264,10 @@ module _ (is_local : Type 0) (file size offset len end : ℕ) (end_is : end ≡ 
                 (let early = (each_more (meaning size first) Only Only a (a ++ b) _ (λ c v e. e) (piece_left a b) p.content c is n).0 in λ h bk. (early.agree h, early.backed bk)),
               ))
               q.blame;
+          few = omega (arith, ap length left_is, p.count, end_is);
+          added = λ c is n.
+              let early = each_more (meaning size first) Only Only a (a ++ b) _ (λ c v e. e) (piece_left a b) p.content c is n in
+              left_is ∙ early.1 ∙ ap (λ (k : ℕ). take k (drop offset c)) (sym p.count ∙ ap length (sym left_is));
         }))) (λ call q. q) both (λ t q. q)
 
   pub read_end : (stands : Standing) (x y : Told) (index : ℕ) (bytes : List ℕ) (u : Unit {0}) → index ≡ (end + 4095) / 4096 →

@@ -1,5 +1,5 @@
 -- What comes of a request on a writable file.
-use Rattle.std.specs.Prelude.{◌≡◌, ◌⊎◌, ℕ, ◌+◌, ◌-◌, ◌/◌, ◌%◌, ◌^◌, ◌<◌, min, max, List, [], ◌∷◌, ◌++◌, length, take, drop, Option, Some, None, Result, Ok, Err, nat_eq, if◌then◌else◌}
+use Rattle.std.specs.Prelude.{◌≡◌, ◌⊎◌, ℕ, ◌+◌, ◌-◌, ◌/◌, ◌%◌, ◌^◌, ◌<◌, ◌≤◌, min, max, List, [], ◌∷◌, ◌++◌, length, take, drop, Option, Some, None, Result, Ok, Err, nat_eq, if◌then◌else◌}
 use Rattle.host_traits.specs.declared.calls.Call.{Call}
 use Rattle.host_traits.specs.Held.{Held, resized}
 use Rattle.host_traits.specs.declared.calls.Call.TheVariants.{TreeRead, FileWrite, Resize}
@@ -86,11 +86,18 @@ pub record IsRead (file size offset len : ℕ) (before after : Meaning) (x y : O
   pub count : length bytes ≡ end_of size offset len - offset
   pub content : Each before Only t.own (λ c. IsNow before after file x y c c × (bytes ≡ take len (drop offset c)))
 
+-- A range wasn't read, for this cause: nothing changed, and the bytes that were added before are the first of the range.
+pub record IsUnread (is_local : Type 0) (file size offset len : ℕ) (before after : Meaning) (x y : Option Held) (bytes : List ℕ) (t : Trace) (why : WalkFault) : Type 0 where
+  pub kept : Each before Only t.own (λ c. IsNow before after file x y c c)
+  pub asked : AreBegun before Only [] (read_calls file size offset (end_of size offset len)) t why
+  pub blame : IsFileBlame is_local x file (IsForFileRead is_local file size offset len) before Only (λ c. c) t why
+  pub few : length bytes ≤ end_of size offset len - offset
+  pub added : Each before Only t.own (λ c. bytes ≡ take (length bytes) (drop offset c))
+
 -- what came of a read
 abbrev pub ReadOutcome : Type 0 → ℕ → ℕ → ℕ → ℕ → Meaning → Meaning → Option Held → Option Held → List ℕ → Result (Unit {0}) RwFault → Trace → Type 0
 ReadOutcome is_local file size offset len before after x y bytes (Ok _) t = IsRead file size offset len before after x y bytes t
-ReadOutcome is_local file size offset len before after x y bytes (Err e) t =
-    FaultSays (IsKept is_local file (IsForFileRead is_local file size offset len) (read_calls file size offset (end_of size offset len)) before after x y t) (λ end. ⊥) ⊥ e
+ReadOutcome is_local file size offset len before after x y bytes (Err e) t = FaultSays (IsUnread is_local file size offset len before after x y bytes t) (λ end. ⊥) ⊥ e
 
 -- all bytes are in place, and zeros between the old end and them; no call failed
 pub record IsWhole (file size at : ℕ) (bytes : List ℕ) (before after : Meaning) (x y : Option Held) (t : Trace) : Type 0 where
