@@ -6,7 +6,7 @@ use Rattle.host_traits.specs.declared.calls.Call.{Call}
 use Rattle.host_traits.specs.declared.calls.Said.TheVariants.{Bytes}
 use Rattle.host_traits.specs.Told.{Told, Exchanges}
 use Rattle.host_traits.specs.Did.{Did, Trace, trace_of}
-use Rattle.host_traits.proofs.Doing.{did_so, did_then, failed_later, short_later, scarce_later}
+use Rattle.host_traits.proofs.Doing.{did_none, did_so, did_then, failed_later, short_later, scarce_later}
 use Rattle.apk_verity.specs.declared.ApkFault.{ApkFault}
 use Rattle.apk_verity.specs.declared.ApkFault.TheVariants as apks
 use Rattle.apk_verity.specs.Opening.{Opening, opening, idsig_call, IsIdsigCall, IsOpened, OpenOutcome, opened}
@@ -24,7 +24,7 @@ use Rattle.sha_tree.specs.declared.measure.Measure.{Measure}
 use Rattle.sha_tree.specs.Tree.{block_count}
 use Rattle.guest_plan.specs.Spelling.{IsDevice}
 use Rattle.verity_path.specs.declared.device.Device.{Device}
-use Rattle.guest_boot.specs.Booting.{IsItem, AreItems, device_on, Booted, measure_in, IsForApk, ApkBoots, ApkFails, ApkIsRefused, apk_cause, FileFails, file_cause, FileOutcome, ApkOutcome, DeviceFails, DeviceOutcome}
+use Rattle.guest_boot.specs.Booting.{IsItem, AreItems, device_on, Booted, measure_in, IsForApk, ApkBoots, ApkFails, ApkIsRefused, apk_cause, FileFails, file_cause, FileOutcome, ApkOutcome, DeviceBoots, DeviceFails, DeviceOutcome}
 
 fits : (m : ℕ) → block_count (4096 * m) ≡ m
 fits m = omega arith
@@ -73,64 +73,73 @@ module _ (s : Booted) (disk : ℕ) (apk idsig : List ℕ) (how : How) where
   no_parts MeasureText t h = h
   no_parts (Failed faults) t h = h
   no_parts (Short asked got) t h = h
-  no_parts Memory t h = (h.0, inl h.1)
+  no_parts Memory t h = h
 
   pub apk_no_parts : (a b : Told) (why : BootCause) (tables : List TableOn) (new : Booted) → Did (IsTableCall disk) 3 a b (FindOutcome s.tables disk (both_parts apk idsig) tables (Err why))
       → Did (IsForApk disk) 4 a b (ApkOutcome s disk apk idsig how new (Err why))
   apk_no_parts a b why tables new d = did_so _ _ 3 4 a b _ _ d (λ call is. inl is) (omega arith) (no_parts why)
 
-  module _ (a b c : Told) (tables : List TableOn) (parts : Span × Span) (o : Opening) (o_is : o ≡ opening disk parts.0 parts.1 (measure_in how))
-      (d : Did (IsTableCall disk) 3 a b (FindOutcome s.tables disk (both_parts apk idsig) tables (Ok parts))) where
-    for_idsig : (call : Call) → IsIdsigCall o call → IsForApk disk call
-    for_idsig call is = inr (parts.1, is.call_is ∙ ap idsig_call o_is)
+  module _ (a b c : Told) (tables : List TableOn) (parts : Span × Span) (d : Did (IsTableCall disk) 3 a b (FindOutcome s.tables disk (both_parts apk idsig) tables (Ok parts))) where
+    abbrev device_opening : Opening
+    device_opening = opening disk parts.0 parts.1 (measure_in how)
 
-    both : (P R : Trace → Type 0) → Did (IsIdsigCall o) 1 b c P
+    for_idsig : (call : Call) → IsIdsigCall device_opening call → IsForApk disk call
+    for_idsig call is = inr (parts.1, is.call_is)
+
+    both : (P R : Trace → Type 0) → Did (IsIdsigCall device_opening) 1 b c P
         → ((x y : Exchanges) (failed : ℕ) → a.faults ≤ b.faults → Finds s.tables disk (both_parts apk idsig) x tables parts → P (trace_of y failed b c) → R (trace_of (x ++ y) failed a c))
         → Did (IsForApk disk) 4 a c R
     both P R e f = did_then (IsForApk disk) 3 1 a b c _ P R (did_so _ _ 3 3 a b _ _ d (λ call is. inl is) (omega arith) (λ t p. p)) (did_so _ _ 1 1 b c _ _ e for_idsig (omega arith) (λ t p. p)) (λ t p. p.0) (λ x y failed le p q. f x y failed le p.1 q)
 
-    refused : (f : ApkFault) (x y : Exchanges) (failed : ℕ) → a.faults ≤ b.faults → Finds s.tables disk (both_parts apk idsig) x tables parts → OpenOutcome o (Err f) (trace_of y failed b c)
-        → ApkIsRefused s disk apk idsig how f (trace_of (x ++ y) failed a c)
-    refused f x y failed le p q = record { first = x; rest = y; cut = refl; tables = tables; parts = parts; found = p; outcome = subst (λ (z : Opening). OpenOutcome z (Err f) (trace_of y failed a c)) o_is (open_later o a b c y failed le f q) }
+    module _ (x y : Exchanges) (failed : ℕ) (le : a.faults ≤ b.faults) (p : Finds s.tables disk (both_parts apk idsig) x tables parts) where
+      refused : (f : ApkFault) → OpenOutcome device_opening (Err f) (trace_of y failed b c) → ApkIsRefused s disk apk idsig how f (trace_of (x ++ y) failed a c)
+      refused f q = record { first = x; rest = y; cut = refl; tables = tables; parts = parts; found = p; outcome = open_later device_opening a b c y failed le f q }
 
-    found_so_far : (first own : Exchanges) (tables2 : List TableOn) (parts2 : Span × Span) → Finds s.tables disk (both_parts apk idsig) first tables2 parts2 → own ≡ first → HasSoFar (table_on disk s.tables) disk own
-    found_so_far first own tables2 parts2 p e = subst (HasSoFar (table_on disk s.tables) disk) (sym e) (so_far disk (table_on disk s.tables) first p.table p.has)
+      found_so_far : x ++ y ≡ x → HasSoFar (table_on disk s.tables) disk (x ++ y)
+      found_so_far e = subst (HasSoFar (table_on disk s.tables) disk) (sym e) (so_far disk (table_on disk s.tables) x p.table p.has)
 
-    named : (f : ApkFault) (t : Trace) → ApkIsRefused s disk apk idsig how f t → ApkFails s disk apk idsig how (apk_cause f) t
-    named (apks.Failed faults) t h = h
-    named (apks.Short asked got) t h = h
-    named (apks.Idsig fault) t h = h
-    named apks.SaltMismatch t h = h
-    named (apks.RootMismatch expected found) t h = h
-    named (apks.TooFewBlocks blocks) t h = h
-    named (apks.TooManyBlocks blocks) t h = h
-    named (apks.SpanShort blocks sectors) t h = h
-    named apks.Memory t h = (h.outcome.1.failed, inl (found_so_far h.first t.own h.tables h.parts h.found (h.cut ∙ ap (λ (z : Exchanges). h.first ++ z) h.outcome.0 ∙ append-nil h.first)))
+      unopened : (why : BootCause) → DeviceFails device_opening why (trace_of y failed b c) → ApkFails s disk apk idsig how why (trace_of (x ++ y) failed a c)
+      unopened (Apk (apks.Failed faults)) q = refused _ q
+      unopened (Apk (apks.Short asked got)) q = refused _ q
+      unopened (Apk (apks.Idsig fault)) q = refused _ q
+      unopened (Apk apks.SaltMismatch) q = refused _ q
+      unopened (Apk (apks.RootMismatch expected found)) q = refused _ q
+      unopened (Apk (apks.TooFewBlocks blocks)) q = refused _ q
+      unopened (Apk (apks.TooManyBlocks blocks)) q = refused _ q
+      unopened (Apk (apks.SpanShort blocks sectors)) q = refused _ q
+      unopened (Apk apks.Memory) q = q
+      unopened Memory q = (q.failed, found_so_far (ap (λ (z : Exchanges). x ++ z) q.own ∙ append-nil x))
+      unopened (Gpt f) q = absurd q
+      unopened (NoPart name) q = absurd q
+      unopened (File f) q = absurd q
+      unopened (Image f) q = absurd q
+      unopened (Get f) q = absurd q
+      unopened (Put f) q = absurd q
+      unopened (NoEntropy left) q = absurd q
+      unopened MeasureText q = absurd q
+      unopened (Failed faults) q = absurd q
+      unopened (Short asked got) q = absurd q
 
-    pub apk_refused : (new : Booted) (f : ApkFault) → Did (IsIdsigCall o) 1 b c (OpenOutcome o (Err f)) → Did (IsForApk disk) 4 a c (ApkOutcome s disk apk idsig how new (Err (apk_cause f)))
-    apk_refused new f e = both _ _ e (λ x y failed le p q. named f _ (refused f x y failed le p q))
+      boots : (new : Booted) (items : List Device) → new ≡ record s { tables = tables; items = items } → DeviceBoots disk parts (measure_in how) s.items y items → ApkBoots s disk apk idsig how (x ++ y) new
+      boots new items e q = record {
+        first = x;
+        tables = tables;
+        parts = parts;
+        found = p;
+        bytes = q.bytes;
+        cut = ap (λ (z : Exchanges). x ++ z) q.own_is;
+        device = q.device;
+        is = q.is;
+        new_is = e ∙ ap (λ (z : List Device). record s { tables = tables; items = z }) q.new_is;
+      }
 
-    boots : (new : Booted) (device : Device) (x y : Exchanges) (failed : ℕ) → new ≡ record s { tables = tables; items = s.items ++ device ∷ [] } → Finds s.tables disk (both_parts apk idsig) x tables parts
-        → IsOpened o (Ok device) (trace_of y failed b c) → ApkBoots s disk apk idsig how (x ++ y) new
-    boots new device x y failed e p q = record {
-      first = x;
-      tables = tables;
-      parts = parts;
-      found = p;
-      bytes = q.bytes;
-      cut = ap (λ (z : Exchanges). x ++ z) (q.own ∙ ap (λ (z : Opening). (idsig_call z, Bytes q.bytes) ∷ []) o_is);
-      device = device;
-      is = ap (λ (z : Opening). opened z q.bytes) (sym o_is) ∙ sym q.is;
-      new_is = e;
-    }
+    pub apk_unopened : (new : Booted) (items : List Device) (why : BootCause) → Did (IsIdsigCall device_opening) 1 b c (DeviceOutcome disk parts (measure_in how) s.items items (Err why))
+        → Did (IsForApk disk) 4 a c (ApkOutcome s disk apk idsig how new (Err why))
+    apk_unopened new items why e = both _ _ e (λ x y failed le p q. unopened x y failed le p why q)
 
-    pub apk_boots : (new : Booted) (device : Device) → new ≡ record s { tables = tables; items = s.items ++ device ∷ [] } → Did (IsIdsigCall o) 1 b c (OpenOutcome o (Ok device))
+    pub apk_opened : (new : Booted) (items : List Device) (m : Measure) → new ≡ record s { tables = tables; items = items } → Did (IsIdsigCall device_opening) 1 b c (DeviceOutcome disk parts (measure_in how) s.items items (Ok m))
         → Did (IsForApk disk) 4 a c (ApkOutcome s disk apk idsig how new (Ok tt))
-    apk_boots new device e d2 = both _ _ d2 (λ x y failed le p q. (q.failed, boots new device x y failed e p q))
-
-    -- the device was made, and the list of devices had no room for it
-    pub apk_memory : (new : Booted) (device : Device) → Did (IsIdsigCall o) 1 b c (OpenOutcome o (Ok device)) → Did (IsForApk disk) 4 a c (ApkOutcome s disk apk idsig how new (Err Memory))
-    apk_memory new device e = both _ _ e (λ x y failed le p q. (q.failed, inr (_, boots (record s { tables = tables; items = s.items ++ device ∷ [] }) device x y failed refl p q)))
+    apk_opened new items m e f = both _ _ f (λ x y failed le p q. (q.0, boots x y failed le p new items e q.1))
 
 -- ---- a file
 
@@ -141,14 +150,14 @@ module _ (file : ℕ) (digest : Digest) (s new : Booted) (a b : Told) where
   named_file (files.DigestMismatch expected found) t h = h
   named_file (files.Descriptor broken) t h = h
   named_file (files.TooLong size) t h = h
-  named_file files.Memory t h = (h.1.failed, inl h.0)
+  named_file files.Memory t h = record { own = h.0; failed = h.1.failed }
 
   pub file_refused : (f : RoFault) → Did (IsDescriptorCall file) 1 a b (OpenFileOutcome file digest (Err f)) → Did (IsDescriptorCall file) 1 a b (FileOutcome s file digest new (Err (file_cause f)))
   file_refused f d = did_so _ _ 1 1 a b _ _ d (λ call x. x) (omega arith) (named_file f)
 
-  -- the file was opened, and the list of files had no room for it
-  pub file_memory : (f : MeasuredFile) → Did (IsDescriptorCall file) 1 a b (OpenFileOutcome file digest (Ok f)) → Did (IsDescriptorCall file) 1 a b (FileOutcome s file digest new (Err Memory))
-  file_memory f d = did_so _ _ 1 1 a b _ _ d (λ call x. x) (omega arith) (λ t o. (o.failed, inr (o.bytes, f, o.own, o.is)))
+-- there was no room for it
+pub file_roomless : (file : ℕ) (digest : Digest) (s new : Booted) (a : Told) → Did (IsDescriptorCall file) 1 a a (FileOutcome s file digest new (Err Memory))
+file_roomless file digest s new a = did_none _ 1 a _ (record { own = refl; failed = refl })
 
 -- ---- a device behind two parts
 
@@ -165,7 +174,7 @@ module _ (disk : ℕ) (parts : Span × Span) (measure : Option Measure) (items n
   named_device (apks.TooFewBlocks blocks) t h = h
   named_device (apks.TooManyBlocks blocks) t h = h
   named_device (apks.SpanShort blocks sectors) t h = h
-  named_device apks.Memory t h = (h.1.failed, inl h.0)
+  named_device apks.Memory t h = record { own = h.0; failed = h.1.failed }
 
   pub device_refused : (f : ApkFault) → Did (IsIdsigCall o) 1 a b (OpenOutcome o (Err f)) → Did (IsIdsigCall o) 1 a b (DeviceOutcome disk parts measure items new (Err (apk_cause f)))
   device_refused f d = did_so _ _ 1 1 a b _ _ d (λ call x. x) (omega arith) (named_device f)
@@ -173,5 +182,7 @@ module _ (disk : ℕ) (parts : Span × Span) (measure : Option Measure) (items n
   pub device_added : (device : Device) → new ≡ items ++ device ∷ [] → Did (IsIdsigCall o) 1 a b (OpenOutcome o (Ok device)) → Did (IsIdsigCall o) 1 a b (DeviceOutcome disk parts measure items new (Ok device.measure))
   device_added device e d = did_so _ _ 1 1 a b _ _ d (λ call x. x) (omega arith) (λ t h. (h.failed, record { bytes = h.bytes; own_is = h.own; device = device; is = sym h.is; new_is = e }, refl))
 
-  pub device_memory : (device : Device) → Did (IsIdsigCall o) 1 a b (OpenOutcome o (Ok device)) → Did (IsIdsigCall o) 1 a b (DeviceOutcome disk parts measure items new (Err Memory))
-  device_memory device d = did_so _ _ 1 1 a b _ _ d (λ call x. x) (omega arith) (λ t h. (h.failed, inr (h.bytes, device, h.own, sym h.is)))
+-- there was no room for it
+pub device_roomless : (disk : ℕ) (parts : Span × Span) (measure : Option Measure) (items new : List Device) (a : Told)
+    → Did (IsIdsigCall (opening disk parts.0 parts.1 measure)) 1 a a (DeviceOutcome disk parts measure items new (Err Memory))
+device_roomless disk parts measure items new a = did_none _ 1 a _ (record { own = refl; failed = refl })

@@ -24,7 +24,7 @@ use Rattle.guest_boot.specs.declared.faults.BootCause.TheVariants.{Gpt, NoPart, 
 use Rattle.guest_boot.specs.declared.lines.Boot.{Boot}
 use Rattle.guest_boot.specs.Finding.{TableOn, IsTableCall, FindOutcome, Finds, both_parts}
 use Rattle.guest_boot.specs.Recording.{Writing, ReadsOrWrites, DidWriting}
-use Rattle.guest_boot.specs.Booting.{Booted, state_of, plain_of, ApkBoots, ApkStops, ApkFails, ApkIsRefused, ApkOutcome, FileOutcome, WriteOutcome, IsResize, BlobOutcome, with_recorded, FoundOutcome, MeasuredDone, FoundDone, RecordedOutcome, RecordedDone, IsForApk, IsForFound, IsForRecorded, IsForLine, most_in_place, LineOutcome, LineDone}
+use Rattle.guest_boot.specs.Booting.{Booted, state_of, plain_of, ApkBoots, ApkFails, ApkIsRefused, ApkOutcome, FileOutcome, WriteOutcome, disk_of, IsResize, BlobOutcome, with_recorded, FoundOutcome, MeasuredDone, FoundDone, RecordedOutcome, RecordedDone, IsForApk, IsForFound, IsForRecorded, IsForLine, most_in_place, LineOutcome, LineDone}
 use Rattle.guest_boot.proofs.Recording.{did_as, did_reading}
 use Rattle.guest_boot.proofs.Runs.{found_later}
 
@@ -49,10 +49,6 @@ module _ (s : Booted) (disk : ℕ) (apk idsig : List ℕ) (how : How) (secret : 
   refused_moved : (f : ApkFault) (t : Trace) → ApkIsRefused s disk apk idsig how f t → ApkIsRefused (with_means s secret w) disk apk idsig how f t
   refused_moved f t h = record { first = h.first; rest = h.rest; cut = h.cut; tables = h.tables; parts = h.parts; found = h.found; outcome = h.outcome }
 
-  stops_moved : (own : Exchanges) → ApkStops s disk apk idsig how own → ApkStops (with_means s secret w) disk apk idsig how own
-  stops_moved own (inl h) = inl h
-  stops_moved own (inr h) = inr (with_means h.0 secret w, boots_moved own h.0 h.1)
-
   fails_moved : (why : BootCause) (t : Trace) → ApkFails s disk apk idsig how why t → ApkFails (with_means s secret w) disk apk idsig how why t
   fails_moved (Apk (apks.Failed faults)) t h = refused_moved _ t h
   fails_moved (Apk (apks.Short asked got)) t h = refused_moved _ t h
@@ -63,7 +59,7 @@ module _ (s : Booted) (disk : ℕ) (apk idsig : List ℕ) (how : How) (secret : 
   fails_moved (Apk (apks.TooManyBlocks blocks)) t h = refused_moved _ t h
   fails_moved (Apk (apks.SpanShort blocks sectors)) t h = refused_moved _ t h
   fails_moved (Apk apks.Memory) t h = h
-  fails_moved Memory t h = (h.0, stops_moved t.own h.1)
+  fails_moved Memory t h = h
   fails_moved (Gpt f) t h = h
   fails_moved (NoPart name) t h = h
   fails_moved (File f) t h = h
@@ -83,11 +79,11 @@ same_state b secret earlier = ap (λ (w : List Writing). state_of b secret w) (s
 
 module _ (secret : Option (List ℕ)) (s new : Boot) (a b : Told) where
   -- work of a line that writes nothing
-  reads_line : (F : _) (m : ℕ) (l : PlanLine) (P : Trace → Type 0) (r : Result (Unit {0}) BootCause) → Did F m a b P → ((call : _) → F call → IsForLine l call) → m ≡ most_in_place l
-      → ((t : Trace) (earlier : List Writing) → P t → LineOutcome (state_of s secret earlier) l (state_of new secret earlier) r t) → DidWriting (IsForLine l) (most_in_place l) a b (LineDone secret s l new r)
+  reads_line : (F : _) (m : ℕ) (l : PlanLine) (P : Trace → Type 0) (r : Result (Unit {0}) BootCause) → Did F m a b P → ((call : _) → F call → IsForLine (disk_of s.image) l call) → m ≡ most_in_place l
+      → ((t : Trace) (earlier : List Writing) → P t → LineOutcome (state_of s secret earlier) l (state_of new secret earlier) r t) → DidWriting (IsForLine (disk_of s.image) l) (most_in_place l) a b (LineDone secret s l new r)
   reads_line F m l P r d f le q = record {
     writings = [];
-    did = did_reading F (IsForLine l) [] m (most_in_place l) a b P (LineDone secret s l new r []) d f (omega (arith, le))
+    did = did_reading F (IsForLine (disk_of s.image) l) [] m (most_in_place l) a b P (LineDone secret s l new r []) d f (omega (arith, le))
         (λ t p earlier. subst (λ (z : Booted). LineOutcome (state_of s secret earlier) l z r t) (same_state new secret earlier) (q t earlier p));
   }
 
@@ -107,7 +103,7 @@ module _ (secret : Option (List ℕ)) (s new : Boot) (a b : Told) where
   first_line disk apk idsig (Err why) t earlier h = (refl, h)
 
   pub did_apk : (disk : ℕ) (apk idsig : List ℕ) (how : How) (r : Result (Unit {0}) BootCause) → ((uuid : Guid) → how ≡ measures.Kept uuid → ⊥) → Did (IsForApk disk) 4 a b (ApkOutcome (plain_of s) disk apk idsig how (plain_of new) r)
-      → DidWriting (IsForLine (line.Apk disk apk idsig how)) (most_in_place (line.Apk disk apk idsig how)) a b (LineDone secret s (line.Apk disk apk idsig how) new r)
+      → DidWriting (IsForLine (disk_of s.image) (line.Apk disk apk idsig how)) (most_in_place (line.Apk disk apk idsig how)) a b (LineDone secret s (line.Apk disk apk idsig how) new r)
   did_apk disk apk idsig (measures.Fixed m) r other d = reads_line (IsForApk disk) 4 (line.Apk disk apk idsig (measures.Fixed m)) (ApkOutcome (plain_of s) disk apk idsig (measures.Fixed m) (plain_of new) r) r d (λ call x. x) refl (λ t earlier h. fixed_line disk apk idsig m r t earlier (apk_line disk apk idsig (measures.Fixed m) r t earlier h))
   did_apk disk apk idsig measures.First r other d = reads_line (IsForApk disk) 4 (line.Apk disk apk idsig measures.First) (ApkOutcome (plain_of s) disk apk idsig measures.First (plain_of new) r) r d (λ call x. x) refl (λ t earlier h. first_line disk apk idsig r t earlier (apk_line disk apk idsig measures.First r t earlier h))
   did_apk disk apk idsig (measures.Kept uuid) r other d = absurd (other uuid refl)
@@ -116,9 +112,9 @@ module _ (secret : Option (List ℕ)) (s new : Boot) (a b : Told) where
   recorded_line disk apk idsig uuid (Ok u) w t h = h
   recorded_line disk apk idsig uuid (Err why) w t h = h
 
-  pub did_recorded : (disk : ℕ) (apk idsig : List ℕ) (uuid : Guid) (r : Result (Unit {0}) BootCause) → DidWriting (IsForRecorded disk) 6 a b (RecordedDone secret s disk apk idsig uuid.0 new r)
-      → DidWriting (IsForLine (line.Apk disk apk idsig (measures.Kept uuid))) 6 a b (LineDone secret s (line.Apk disk apk idsig (measures.Kept uuid)) new r)
-  did_recorded disk apk idsig uuid r d = record { writings = d.writings; did = did_as _ _ 6 6 a b _ _ d.did (λ call given x. x) (omega arith) (recorded_line disk apk idsig uuid r d.writings) }
+  pub did_recorded : (disk : ℕ) (apk idsig : List ℕ) (uuid : Guid) (r : Result (Unit {0}) BootCause) → DidWriting (IsForRecorded (disk_of s.image) disk) 5 a b (RecordedDone secret s disk apk idsig uuid.0 new r)
+      → DidWriting (IsForLine (disk_of s.image) (line.Apk disk apk idsig (measures.Kept uuid))) 5 a b (LineDone secret s (line.Apk disk apk idsig (measures.Kept uuid)) new r)
+  did_recorded disk apk idsig uuid r d = record { writings = d.writings; did = did_as _ _ 5 5 a b _ _ d.did (λ call given x. x) (omega arith) (recorded_line disk apk idsig uuid r d.writings) }
 
   file_line : (name : List ℕ) (file : ℕ) (digest : Digest) (r : Result (Unit {0}) BootCause) (t : Trace) (earlier : List Writing) → FileOutcome (plain_of s) file digest (plain_of new) r t
       → LineOutcome (state_of s secret earlier) (line.File name file digest) (state_of new secret earlier) r t
@@ -129,7 +125,7 @@ module _ (secret : Option (List ℕ)) (s new : Boot) (a b : Told) where
   file_line name file digest (Err why) t earlier h = (refl, h)
 
   pub did_file : (name : List ℕ) (file : ℕ) (digest : Digest) (r : Result (Unit {0}) BootCause) → Did (IsDescriptorCall file) 1 a b (FileOutcome (plain_of s) file digest (plain_of new) r)
-      → DidWriting (IsForLine (line.File name file digest)) 1 a b (LineDone secret s (line.File name file digest) new r)
+      → DidWriting (IsForLine (disk_of s.image) (line.File name file digest)) 1 a b (LineDone secret s (line.File name file digest) new r)
   did_file name file digest r d = reads_line (IsDescriptorCall file) 1 (line.File name file digest) (FileOutcome (plain_of s) file digest (plain_of new) r) r d (λ call x. x) refl (file_line name file digest r)
 
   write_line : (name : List ℕ) (file : ℕ) (r : Result (Unit {0}) BootCause) (t : Trace) (earlier : List Writing) → WriteOutcome file r t
@@ -139,14 +135,14 @@ module _ (secret : Option (List ℕ)) (s new : Boot) (a b : Told) where
 
 module _ (secret : Option (List ℕ)) (s : Boot) (a b : Told) where
   pub did_write : (name : List ℕ) (file : ℕ) (r : Result (Unit {0}) BootCause) → Did (IsResize file) 1 a b (WriteOutcome file r)
-      → DidWriting (IsForLine (line.Write name file)) 1 a b (LineDone secret s (line.Write name file) s r)
+      → DidWriting (IsForLine (disk_of s.image) (line.Write name file)) 1 a b (LineDone secret s (line.Write name file) s r)
   did_write name file r d = reads_line secret s s a b (IsResize file) 1 (line.Write name file) (WriteOutcome file r) r d (λ call x. x) refl (write_line secret s s a b name file r)
 
 module _ (secret : Option (List ℕ)) (s new : Boot) (a : Told) where
-  pub did_instance : (disk : ℕ) (part : List ℕ) → DidWriting (IsForLine (line.Instance disk part)) 0 a a (LineDone secret s (line.Instance disk part) s (Ok tt))
+  pub did_instance : (disk : ℕ) (part : List ℕ) → DidWriting (IsForLine (disk_of s.image) (line.Instance disk part)) 0 a a (LineDone secret s (line.Instance disk part) s (Ok tt))
   did_instance disk part = reads_line secret s s a a _ 0 (line.Instance disk part) _ (Ok tt) (did_none (λ call. ⊥) 0 a (λ t. (t.failed ≡ 0) × (t.own ≡ [])) (refl, refl)) (λ call x. absurd x) refl (λ t earlier h. (h.0, (h.1, refl)))
 
-  pub did_writedir : (name : List ℕ) (file : ℕ) → DidWriting (IsForLine (line.WriteDir name file)) 0 a a (LineDone secret s (line.WriteDir name file) s (Ok tt))
+  pub did_writedir : (name : List ℕ) (file : ℕ) → DidWriting (IsForLine (disk_of s.image) (line.WriteDir name file)) 0 a a (LineDone secret s (line.WriteDir name file) s (Ok tt))
   did_writedir name file = reads_line secret s s a a _ 0 (line.WriteDir name file) _ (Ok tt) (did_none (λ call. ⊥) 0 a (λ t. (t.failed ≡ 0) × (t.own ≡ [])) (refl, refl)) (λ call x. absurd x) refl (λ t earlier h. (h.0, (h.1, refl)))
 
   blob_line : (file : ℕ) (m : Measure) (r : Result (Unit {0}) BootCause) (t : Trace) (earlier : List Writing) → BlobOutcome (plain_of s) file m (plain_of new) r → t.failed ≡ 0 → t.own ≡ []
@@ -155,23 +151,23 @@ module _ (secret : Option (List ℕ)) (s new : Boot) (a : Told) where
   blob_line file m (Err why) t earlier e none own = (refl, none, e)
 
   pub did_blob : (file : ℕ) (m : Measure) (r : Result (Unit {0}) BootCause) → BlobOutcome (plain_of s) file m (plain_of new) r
-      → DidWriting (IsForLine (line.Blob file m)) 0 a a (LineDone secret s (line.Blob file m) new r)
+      → DidWriting (IsForLine (disk_of s.image) (line.Blob file m)) 0 a a (LineDone secret s (line.Blob file m) new r)
   did_blob file m r e = reads_line secret s new a a _ 0 (line.Blob file m) _ r (did_none (λ call. ⊥) 0 a (λ t. (t.failed ≡ 0) × (t.own ≡ [])) (refl, refl)) (λ call x. absurd x) refl (λ t earlier h. blob_line file m r t earlier e h.0 h.1)
 
-pub did_line : (secret : Option (List ℕ)) (s new : Boot) (a b : Told) (r : Result (Unit {0}) BootCause) (l k : PlanLine) → l ≡ k → DidWriting (IsForLine k) (most_in_place k) a b (LineDone secret s k new r)
-    → DidWriting (IsForLine l) (most_in_place l) a b (LineDone secret s l new r)
-did_line secret s new a b r l k is d = subst (λ (z : PlanLine). DidWriting (IsForLine z) (most_in_place z) a b (LineDone secret s z new r)) (sym is) d
+pub did_line : (secret : Option (List ℕ)) (s new : Boot) (a b : Told) (r : Result (Unit {0}) BootCause) (l k : PlanLine) → l ≡ k → DidWriting (IsForLine (disk_of s.image) k) (most_in_place k) a b (LineDone secret s k new r)
+    → DidWriting (IsForLine (disk_of s.image) l) (most_in_place l) a b (LineDone secret s l new r)
+did_line secret s new a b r l k is d = subst (λ (z : PlanLine). DidWriting (IsForLine (disk_of s.image) z) (most_in_place z) a b (LineDone secret s z new r)) (sym is) d
 
 -- ---- a device whose measure is in a record
 
 module _ (secret : Option (List ℕ)) (s : Boot) (disk : ℕ) (apk idsig uuid : List ℕ) (a b : Told) where
   pub not_found : (new : Boot) (tables : List TableOn) (why : BootCause) → Did (IsTableCall disk) 3 a b (FindOutcome s.tables.items disk (both_parts apk idsig) tables (Err why))
-      → DidWriting (IsForRecorded disk) 6 a b (RecordedDone secret s disk apk idsig uuid new (Err why))
-  not_found new tables why d = record { writings = []; did = did_reading (IsTableCall disk) (IsForRecorded disk) [] 3 6 a b _ _ d (λ call x. inl x) (omega arith) (λ t h earlier. inl (append-nil earlier, h)) }
+      → DidWriting (IsForRecorded (disk_of s.image) disk) 5 a b (RecordedDone secret s disk apk idsig uuid new (Err why))
+  not_found new tables why d = record { writings = []; did = did_reading (IsTableCall disk) (IsForRecorded (disk_of s.image) disk) [] 3 5 a b _ _ d (λ call x. inl x) (omega arith) (λ t h earlier. inl (append-nil earlier, h)) }
 
   module _ (c : Told) (parts : Span × Span) (mid new : Boot) (same : (earlier : List Writing) → state_of mid secret earlier ≡ record (state_of s secret earlier) { tables = mid.tables.items })
       (r : Result (Unit {0}) BootCause) (d : Did (IsTableCall disk) 3 a b (FindOutcome s.tables.items disk (both_parts apk idsig) mid.tables.items (Ok parts)))
-      (e : DidWriting (IsForFound disk) 3 b c (FoundDone secret mid disk parts uuid new r)) where
+      (e : DidWriting (IsForFound (disk_of s.image) disk) 2 b c (FoundDone secret mid disk parts uuid new r)) where
     behind : (result : Result (Unit {0}) BootCause) (old after : Booted) (x y : Exchanges) (failed : ℕ) → a.faults ≤ b.faults → Finds old.tables disk (both_parts apk idsig) x mid.tables.items parts
         → FoundOutcome (record old { tables = mid.tables.items }) disk parts uuid after result (trace_of y failed b c) → RecordedOutcome old disk apk idsig uuid after result (trace_of (x ++ y) failed a c)
     behind (Ok u) old after x y failed le p q = (q.0, record { first = x; tables = mid.tables.items; parts = parts; found = p; rest = y; cut = refl; behind = q.1 })
@@ -185,37 +181,37 @@ module _ (secret : Option (List ℕ)) (s : Boot) (disk : ℕ) (apk idsig uuid : 
       fails = found_later a b c y failed le (record old { tables = mid.tables.items }) disk parts uuid why after.writings q;
     })
 
-    pub found_then : DidWriting (IsForRecorded disk) 6 a c (RecordedDone secret s disk apk idsig uuid new r)
+    pub found_then : DidWriting (IsForRecorded (disk_of s.image) disk) 5 a c (RecordedDone secret s disk apk idsig uuid new r)
     found_then = record {
       writings = e.writings;
-      did = did_by_then (ReadsOrWrites (IsForRecorded disk) e.writings) 3 3 a b c _ _ (RecordedDone secret s disk apk idsig uuid new r e.writings)
-          (did_reading (IsTableCall disk) (IsForRecorded disk) e.writings 3 3 a b _ _ d (λ call x. inl x) (omega arith) (λ t p. p))
-          (did_as _ _ 3 3 b c _ _ e.did wider (omega arith) (λ t p. p))
+      did = did_by_then (ReadsOrWrites (IsForRecorded (disk_of s.image) disk) e.writings) 3 2 a b c _ _ (RecordedDone secret s disk apk idsig uuid new r e.writings)
+          (did_reading (IsTableCall disk) (IsForRecorded (disk_of s.image) disk) e.writings 3 3 a b _ _ d (λ call x. inl x) (omega arith) (λ t p. p))
+          (did_as _ _ 2 2 b c _ _ e.did wider (omega arith) (λ t p. p))
           (λ t p. p.0)
           (λ x y failed le p q earlier. behind r (state_of s secret earlier) (state_of new secret (earlier ++ e.writings)) x y failed le p.1
           (subst (λ (z : Booted). FoundOutcome z disk parts uuid (state_of new secret (earlier ++ e.writings)) r (trace_of y failed b c)) (same earlier) (q earlier)));
     } where
-      wider : (call : Call) (given : List ℕ) → ReadsOrWrites (IsForFound disk) e.writings call given → ReadsOrWrites (IsForRecorded disk) e.writings call given
+      wider : (call : Call) (given : List ℕ) → ReadsOrWrites (IsForFound (disk_of s.image) disk) e.writings call given → ReadsOrWrites (IsForRecorded (disk_of s.image) disk) e.writings call given
       wider call given (inl x) = inl (inr x.0, x.1)
       wider call given (inr x) = inr x
 
 module _ (disk : ℕ) (parts : Span × Span) (uuid : List ℕ) (secret : Option (List ℕ)) (s : Boot) where
   -- no image of records, or no secret
-  pub no_records : (new : Boot) (a : Told) → (s.image ≡ None) ⊎ (secret ≡ None) → DidWriting (IsForFound disk) 3 a a (FoundDone secret s disk parts uuid new (Err (Get gets.NoRecord)))
+  pub no_records : (new : Boot) (a : Told) → (s.image ≡ None) ⊎ (secret ≡ None) → DidWriting (IsForFound (disk_of s.image) disk) 2 a a (FoundDone secret s disk parts uuid new (Err (Get gets.NoRecord)))
   no_records new a none = record {
     writings = [];
-    did = did_reading (λ call. ⊥) (IsForFound disk) [] 0 3 a a _ _ (did_none (λ call. ⊥) 0 a (λ t. (t.failed ≡ 0) × (t.own ≡ [])) (refl, refl)) (λ call x. absurd x) (omega arith)
+    did = did_reading (λ call. ⊥) (IsForFound (disk_of s.image) disk) [] 0 2 a a _ _ (did_none (λ call. ⊥) 0 a (λ t. (t.failed ≡ 0) × (t.own ≡ [])) (refl, refl)) (λ call x. absurd x) (omega arith)
         (λ t h earlier. inl (none, refl, append-nil earlier, record { own = h.1; failed = h.0 }));
   }
 
   pub with_records : (bytes : List ℕ) (image now : Kept) (entropy left : List ℕ) (items added : List Device) (new : Boot) (r : Result (Unit {0}) BootCause) (a b : Told) → secret ≡ Some bytes → s.image ≡ Some image
       → ((i : Option Kept) (k : Option (List ℕ)) (w : List Writing) → record (state_of s secret w) { image = i; secret = k } ≡ record (state_of s secret w) { image = i; secret = k; entropy = entropy; items = items })
       → ((k : Option (List ℕ)) (w : List Writing) → record (state_of new secret w) { secret = k } ≡ record (state_of s secret w) { image = Some now; secret = k; entropy = left; items = added })
-      → DidWriting (IsForFound disk) 3 a b (MeasuredDone disk parts uuid bytes (record { image = image; entropy = entropy; items = items }) (record { image = now; entropy = left; items = added }) r)
-      → DidWriting (IsForFound disk) 3 a b (FoundDone secret s disk parts uuid new r)
+      → DidWriting (IsForFound (Some image.disk) disk) 2 a b (MeasuredDone disk parts uuid bytes (record { image = image; entropy = entropy; items = items }) (record { image = now; entropy = left; items = added }) r)
+      → DidWriting (IsForFound (disk_of s.image) disk) 2 a b (FoundDone secret s disk parts uuid new r)
   with_records bytes image now entropy left items added new r a b secret_is image_is before after d = record {
     writings = d.writings;
-    did = did_as _ _ 3 3 a b _ _ d.did (λ call given x. x) (omega arith) (λ t h earlier.
+    did = did_as _ _ 2 2 a b _ _ d.did (λ call given x. subst (λ (z : Option ℕ). ReadsOrWrites (IsForFound z disk) d.writings call given) (sym (ap disk_of image_is)) x) (omega arith) (λ t h earlier.
         let old : Option Kept → Option (List ℕ) → Booted = λ i k. record (state_of s secret earlier) { image = i; secret = k } in
         let end : Option (List ℕ) → Booted = λ k. record (state_of new secret (earlier ++ d.writings)) { secret = k } in
         subst (λ (k : Option (List ℕ)). FoundOutcome (old s.image k) disk parts uuid (end k) r t) (sym secret_is)

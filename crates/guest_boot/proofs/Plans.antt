@@ -16,7 +16,7 @@ use Rattle.guest_plan.specs.declared.plan.Item.TheVariants.{Secret, InstanceSalt
 use Rattle.guest_plan.specs.Plans.{Known, nothing, add, clash, is_instance, first_lacking, has_keys, has_instance, is_kept}
 use Rattle.guest_plan.specs.Spelling.{IsPlan, IsServed, IsItem as IsSaid}
 use Rattle.guest_boot.specs.Finding.{IsTableCall}
-use Rattle.guest_boot.specs.Booting.{AreServed, PlansAreNumbered, InstanceLine, instance_from, IsSalted, PlansAreSalted, InstanceIsAlone, Booted, LineBoots, OnlyReads, RecordsStay, ReadersWriteNothing, IsForApk, IsForImage, IsForLine, IsRead, ReadersOnlyRead}
+use Rattle.guest_boot.specs.Booting.{AreServed, PlansAreNumbered, InstanceLine, instance_from, instance_in, instance_disk, IsSalted, PlansAreSalted, InstanceIsAlone, Booted, LineBoots, OnlyReads, RecordsStay, ReadersWriteNothing, IsForApk, IsForImage, IsForLine, IsRead, ReadersOnlyRead}
 
 served_push : (lines : List PlanLine) (l : PlanLine) → AreServed lines → IsServed l → AreServed (lines ++ l ∷ [])
 served_push [] l s one = (one, tt)
@@ -271,15 +271,15 @@ image_reads : (disk : ℕ) (call : Call) → IsForImage disk call → IsRead cal
 image_reads disk call (inl t) = table_reads disk call t
 image_reads disk call (inr p) = asks_bytes _ (kind_of call) (ap kind_of p.1)
 
-pub line_reads : (l : PlanLine) (call : Call) → OnlyReads l → IsForLine l call → IsRead call
-line_reads (line.Instance disk part) call only f = image_reads disk call f
-line_reads (line.Blob file m) call only f = absurd f
-line_reads (line.Apk disk apk idsig (measures.Fixed m)) call only f = apk_reads disk call f
-line_reads (line.Apk disk apk idsig measures.First) call only f = apk_reads disk call f
-line_reads (line.Apk disk apk idsig (measures.Kept uuid)) call only f = absurd only
-line_reads (line.File name file digest) call only f = asks_bytes _ (kind_of call) (ap kind_of f)
-line_reads (line.Write name file) call only f = absurd only
-line_reads (line.WriteDir name file) call only f = absurd f
+pub line_reads : (image : Option ℕ) (l : PlanLine) (call : Call) → OnlyReads l → IsForLine image l call → IsRead call
+line_reads image (line.Instance disk part) call only f = image_reads disk call f
+line_reads image (line.Blob file m) call only f = absurd f
+line_reads image (line.Apk disk apk idsig (measures.Fixed m)) call only f = apk_reads disk call f
+line_reads image (line.Apk disk apk idsig measures.First) call only f = apk_reads disk call f
+line_reads image (line.Apk disk apk idsig (measures.Kept uuid)) call only f = absurd only
+line_reads image (line.File name file digest) call only f = asks_bytes _ (kind_of call) (ap kind_of f)
+line_reads image (line.Write name file) call only f = absurd only
+line_reads image (line.WriteDir name file) call only f = absurd f
 
 only_at : (lines : List PlanLine) (k : ℕ) (l : PlanLine) → AllByRecursion OnlyReads lines → slice_get lines k ≡ Some l → OnlyReads l
 only_at [] k l only at = absurd cc
@@ -287,4 +287,4 @@ only_at (x ∷ lines) zero l only at = let same : x ≡ l = cc in subst OnlyRead
 only_at (x ∷ lines) (suc k) l only at = only_at lines k l only.1 at
 
 pub only_read : ReadersOnlyRead
-only_read lines call only f = line_reads f.line call (only_at lines f.at f.line only f.stands) f.for
+only_read lines call only f = line_reads (instance_disk (instance_in lines)) f.line call (only_at lines f.at f.line only f.stands) f.for

@@ -1,10 +1,11 @@
 -- The measure that a record keeps.
-use Rattle.std.proofs.Common.{Bool, true, false, ◌≡◌, ℕ, ◌<◌, ◌≤◌, ◌∙◌, List, [], ◌∷◌, ◌++◌, length, take, drop, Option, Some, None, Result, Ok, Err, refl, ap, sym, subst, inl, inr, arith, append_assoc, append-nil}
+use Rattle.std.proofs.Common.{Bool, true, false, ◌≡◌, ℕ, ◌+◌, ◌<◌, ◌≤◌, ◌∙◌, List, [], ◌∷◌, ◌++◌, length, take, drop, Option, Some, None, Result, Ok, Err, refl, ap, sym, subst, inl, inr, arith, append_assoc, append-nil}
 use Rattle.std.specs.Prelude.{nat_lt, if◌then◌else◌, ◌⊎◌}
 use Rattle.std.proofs.lemmas.Bool.Decides.{nat_tests}
 use Rattle.mg_base.specs.declared.values.Span.{Span}
 use Rattle.host_traits.specs.declared.calls.Call.{Call}
-use Rattle.host_traits.specs.Told.{Told, Exchanges}
+use Rattle.host_traits.specs.declared.calls.Said.{Said}
+use Rattle.host_traits.specs.Told.{Told, Exchanges, Made, exchange_of, heard_of, one_failure, failures_of}
 use Rattle.host_traits.specs.Did.{Did, DidBy, Trace, trace_of, reads}
 use Rattle.host_traits.proofs.Doing.{did_none, did_so, each_so, did_by_then, failed_later, short_later}
 use Rattle.sha_tree.specs.declared.measure.Measure.{Measure}
@@ -63,6 +64,19 @@ fits_no : (r : Result Part PutFault) (why : PutFault) → fits r ≡ Err why →
 fits_no (Ok p) why e = absurd cc
 fits_no (Err fault) why e = let same : fault ≡ why = cc in ap (λ (f : PutFault). Err f) same
 
+not_refused : (r : Result Part PutFault) (u : Unit {0}) (why : PutFault) → fits r ≡ Ok u → r ≡ Err why → ⊥
+not_refused (Ok p) u why e f = cc
+not_refused (Err fault) u why e f = cc
+
+-- an empty partition is there
+large_is_there : (n : ℕ) (b : Bool) (p : Part) → (if b then Err (puts.TooLarge n (room_of p)) else Ok p) ≡ Err puts.NoRecord → ⊥
+large_is_there n true p e = cc
+large_is_there n false p e = cc
+
+is_there : (n : ℕ) (o : Option Part) → size_of o ≡ Some 0 → fitting n o ≡ Err puts.NoRecord → ⊥
+is_there n None empty e = cc
+is_there n (Some p) empty e = large_is_there n (is_large n p) p e
+
 -- of the two tests
 abbrev IsTest : PutFault → Type 0
 IsTest puts.NoRecord = Unit {0}
@@ -95,18 +109,19 @@ module _ (k : Kept) (secret uuid entropy : List ℕ) (m : Measure) where
       let few : nat_lt (length entropy) 12 ≡ false = grind (arith, nat_tests, enough) in
       ap (writings_if k secret uuid entropy m) e ∙ rw few refl
 
-  refused_as : (now : Kept) (left : List ℕ) (why : PutFault) (t : Trace) → IsQuiet t → fits_in k.parts uuid (length text) ≡ Err why → IsTest why → KeepOutcome k uuid entropy m now left (Err (put_cause why)) t
-  refused_as now left puts.NoRecord t q e is = (q, e)
-  refused_as now left (puts.TooLarge n room) t q e is = (q, e)
-  refused_as now left puts.Memory t q e is = absurd is
-  refused_as now left (puts.Failed faults) t q e is = absurd is
+  module _ (empty : IsEmpty k uuid) where
+    refused_as : (now : Kept) (left : List ℕ) (why : PutFault) (t : Trace) → IsQuiet t → fits_in k.parts uuid (length text) ≡ Err why → IsTest why → KeepOutcome k uuid entropy m now left (Err (put_cause why)) t
+    refused_as now left puts.NoRecord t q e is = absurd (is_there (length text) (find_part k.parts uuid) empty e)
+    refused_as now left (puts.TooLarge n room) t q e is = (q, e)
+    refused_as now left puts.Memory t q e is = absurd is
+    refused_as now left (puts.Failed faults) t q e is = absurd is
 
-  pub keep_refused : (now : Kept) (left : List ℕ) (why : PutFault) (a : Told) → fits (fits_in k.parts uuid (length text)) ≡ Err why
-      → DidBy (ReadsOrWrites (λ call. ⊥) w) 1 a a (KeepOutcome k uuid entropy m now left (Err (put_cause why)))
-  keep_refused now left why a e =
-      let is = fits_no _ why e in
-      did_reading (λ call. ⊥) (λ call. ⊥) w 1 1 a a _ _ (did_none (λ call. ⊥) 1 a (KeepOutcome k uuid entropy m now left (Err (put_cause why))) (refused_as now left why _ (record { own = refl; failed = refl }) is (test_of (length text) (find_part k.parts uuid) why is)))
-      (λ call f. f) (omega arith) (λ t h. h)
+    pub keep_refused : (now : Kept) (left : List ℕ) (why : PutFault) (a : Told) → fits (fits_in k.parts uuid (length text)) ≡ Err why
+        → DidBy (ReadsOrWrites (λ call. ⊥) w) 1 a a (KeepOutcome k uuid entropy m now left (Err (put_cause why)))
+    keep_refused now left why a e =
+        let is = fits_no _ why e in
+        did_reading (λ call. ⊥) (λ call. ⊥) w 1 1 a a _ _ (did_none (λ call. ⊥) 1 a (KeepOutcome k uuid entropy m now left (Err (put_cause why))) (refused_as now left why _ (record { own = refl; failed = refl }) is (test_of (length text) (find_part k.parts uuid) why is)))
+        (λ call f. f) (omega arith) (λ t h. h)
 
   pub keep_starved : (now : Kept) (left : List ℕ) (n : ℕ) (a : Told) → (u : Unit {0}) → fits (fits_in k.parts uuid (length text)) ≡ Ok u → n ≡ length entropy → length entropy < 12
       → DidBy (ReadsOrWrites (λ call. ⊥) w) 1 a a (KeepOutcome k uuid entropy m now left (Err (NoEntropy n)))
@@ -127,7 +142,7 @@ module _ (k : Kept) (secret uuid entropy : List ℕ) (m : Measure) where
     keep_put x left_is d = did_as _ _ 1 1 a b _ _ d putting (omega arith) (λ t h. (h.0, (enough, h.1, left_is)))
 
     unput : (why : PutFault) (t : Trace) → PutOutcome k uuid text now (Err why) t → KeepOutcome k uuid entropy m now left (Err (put_cause why)) t
-    unput puts.NoRecord t h = (record { own = h.1; failed = h.2 }, h.3)
+    unput puts.NoRecord t h = absurd (not_refused _ u puts.NoRecord e h.3)
     unput (puts.TooLarge n room) t h = (record { own = h.1; failed = h.2 }, h.3)
     unput puts.Memory t h = (record { own = h.1; failed = h.2 }, h.3, enough)
     unput (puts.Failed faults) t h = (h.1, enough, h.2)
@@ -139,13 +154,13 @@ module _ (k : Kept) (secret uuid entropy : List ℕ) (m : Measure) where
 -- ---- a measure that is got
 
 module _ (k : Kept) (secret uuid : List ℕ) where
-  getting : (call : Call) → IsGetCall k uuid call → IsGetting call
-  getting call g = (k, g.part, g.has.most, g.call_is)
+  pub getting : (call : Call) → IsGetCall k uuid call → IsGetting (Some k.disk) call
+  getting call g = (k.first + g.part.sector, g.part.size, g.has.most, g.call_is)
 
-  pub got_none : (a : Told) → size_of (find_part k.parts uuid) ≡ Some 0 → Did IsGetting 1 a a (MeasureOutcome k secret uuid (Ok None))
+  pub got_none : (a : Told) → size_of (find_part k.parts uuid) ≡ Some 0 → Did (IsGetCall k uuid) 1 a a (MeasureOutcome k secret uuid (Ok None))
   got_none a e = did_none _ 1 a _ (refl, (refl, e))
 
-  pub got_unknown : (a : Told) → size_of (find_part k.parts uuid) ≡ None → Did IsGetting 1 a a (MeasureOutcome k secret uuid (Err (Get gets.NoRecord)))
+  pub got_unknown : (a : Told) → size_of (find_part k.parts uuid) ≡ None → Did (IsGetCall k uuid) 1 a a (MeasureOutcome k secret uuid (Err (Get gets.NoRecord)))
   got_unknown a e = did_none _ 1 a _ (record { own = refl; failed = refl }, e)
 
   module _ (a b : Told) (size : ℕ) (is : size_of (find_part k.parts uuid) ≡ Some size) (some : (size ≡ 0) → ⊥) where
@@ -158,18 +173,38 @@ module _ (k : Kept) (secret uuid : List ℕ) where
     named (gets.Tag tag) t h = h
     named gets.Memory t h = h
 
-    pub got_failed : (why : GetFault) → Did (IsGetCall k uuid) 1 a b (GetOutcome k secret uuid (Err why)) → Did IsGetting 1 a b (MeasureOutcome k secret uuid (Err (get_cause why)))
-    got_failed why d = did_so _ _ 1 1 a b _ _ d getting (omega arith) (named why)
+    pub got_failed : (why : GetFault) → Did (IsGetCall k uuid) 1 a b (GetOutcome k secret uuid (Err why)) → Did (IsGetCall k uuid) 1 a b (MeasureOutcome k secret uuid (Err (get_cause why)))
+    got_failed why d = did_so _ _ 1 1 a b _ _ d (λ call g. g) (omega arith) (named why)
 
     module _ (text : List ℕ) (d : Did (IsGetCall k uuid) 1 a b (GetOutcome k secret uuid (Ok text))) where
-      pub got_measure : (m : Measure) → IsMeasureText text m → Did IsGetting 1 a b (MeasureOutcome k secret uuid (Ok (Some m)))
-      got_measure m says = did_so _ _ 1 1 a b _ _ d getting (omega arith) (λ t h. (
+      pub got_measure : (m : Measure) → IsMeasureText text m → Did (IsGetCall k uuid) 1 a b (MeasureOutcome k secret uuid (Ok (Some m)))
+      got_measure m says = did_so _ _ 1 1 a b _ _ d (λ call g. g) (omega arith) (λ t h. (
         h.failed,
         record { part = h.part; has = h.has; bytes = h.bytes; own_is = h.own; text = text; opens = h.makes; says = says },
       ))
 
-      pub got_other : ((m : Measure) → ¬ IsMeasureText text m) → Did IsGetting 1 a b (MeasureOutcome k secret uuid (Err MeasureText))
-      got_other none = did_so _ _ 1 1 a b _ _ d getting (omega arith) (λ t h. (text, h, none))
+      pub got_other : ((m : Measure) → ¬ IsMeasureText text m) → Did (IsGetCall k uuid) 1 a b (MeasureOutcome k secret uuid (Err MeasureText))
+      got_other none = did_so _ _ 1 1 a b _ _ d (λ call g. g) (omega arith) (λ t h. (text, h, none))
+
+-- ---- no call was made where none was heard and none failed
+
+made_none : (call : Call) (came : Option Said) (rest : Exchanges) (n : ℕ) → exchange_of call came ++ rest ≡ [] → one_failure came + n ≡ 0 → ⊥
+made_none call None rest n e f = omega (arith, f)
+made_none call (Some said) rest n e f = cc
+
+none_made : (own : List Made) → heard_of own ≡ [] → failures_of own ≡ 0 → length own ≤ 0
+none_made [] e f = omega arith
+none_made (m ∷ own) e f = absurd (made_none m.call m.came (heard_of own) (failures_of own) e f)
+
+pub is_empty : (k : Kept) (secret uuid : List ℕ) (measure : Option Measure) → measure ≡ None → (own : Exchanges) → Measured k secret uuid own measure → IsEmpty k uuid
+is_empty k secret uuid None e own m = m.1
+is_empty k secret uuid (Some g) e own m = absurd cc
+
+-- for an empty record
+nothing_got : (k : Kept) (secret uuid : List ℕ) (measure : Option Measure) (a b : Told) → Did (IsGetCall k uuid) 1 a b (MeasureOutcome k secret uuid (Ok measure)) → measure ≡ None
+    → Did (IsGetCall k uuid) 0 a b (MeasureOutcome k secret uuid (Ok measure))
+nothing_got k secret uuid (Some m) a b d e = absurd cc
+nothing_got k secret uuid None a b d e = record { own = d.own; talked = d.talked; calls = d.calls; few = none_made d.own d.outcome.1.0 d.outcome.0; stops = d.stops; outcome = d.outcome }
 
 -- ---- seen from before
 
@@ -194,10 +229,10 @@ module _ (a b c : Told) (y : Exchanges) (failed : ℕ) (le : a.faults ≤ b.faul
   device_later o MeasureText h = h
   device_later o (Failed faults) h = h
   device_later o (Short asked got) h = h
-  device_later o Memory h = h
+  device_later o Memory h = record { own = h.own; failed = h.failed }
 
   pub keep_later : (k : Kept) (uuid entropy : List ℕ) (m : Measure) (why : BootCause) → KeepFails k uuid entropy m why (trace_of y failed b c) → KeepFails k uuid entropy m why (trace_of y failed a c)
-  keep_later k uuid entropy m (Put puts.NoRecord) h = (record { own = h.0.own; failed = h.0.failed }, h.1)
+  keep_later k uuid entropy m (Put puts.NoRecord) h = h
   keep_later k uuid entropy m (Put (puts.TooLarge n room)) h = (record { own = h.0.own; failed = h.0.failed }, h.1)
   keep_later k uuid entropy m (Put puts.Memory) h = h
   keep_later k uuid entropy m (Put (puts.Failed faults)) h = (h.0, h.1, failed_later (IsPutCall k uuid (measure_text m)) a b c [] y failed faults le h.2)
@@ -253,41 +288,44 @@ module _ (disk : ℕ) (parts : Span × Span) (uuid secret : List ℕ) (k : Kept)
   abbrev o : Option Measure → Opening
   o measure = opening disk parts.0 parts.1 measure
 
+  abbrev IsFor : Call → Type 0
+  IsFor call = IsForFound (Some k.disk) disk call
+
   unmade : (s : Booted) (why : BootCause) (now : Recorded) (t : Trace) → MeasureFails k secret uuid why t ⊎ OpeningFails disk parts k secret uuid why t
       → FoundOutcome (with_recorded s old secret) disk parts uuid (with_recorded (record s { writings = s.writings ++ [] }) now secret) (Err why) t
   unmade s why now t h = inr (record { image = k; image_is = refl; secret = secret; secret_is = refl; fails = inl (append-nil s.writings, h) })
 
-  pub ungot : (now : Recorded) (why : BootCause) (a b : Told) → Did IsGetting 1 a b (MeasureOutcome k secret uuid (Err why))
-      → DidWriting (IsForFound disk) 3 a b (MeasuredDone disk parts uuid secret old now (Err why))
-  ungot now why a b d = record { writings = []; did = did_reading IsGetting (IsForFound disk) [] 1 3 a b _ _ d (λ call f. inl f) (omega arith) (λ t h s. unmade s why now t (inl h)) }
+  pub ungot : (now : Recorded) (why : BootCause) (a b : Told) → Did (IsGetCall k uuid) 1 a b (MeasureOutcome k secret uuid (Err why))
+      → DidWriting (IsForFound (Some k.disk) disk) 2 a b (MeasuredDone disk parts uuid secret old now (Err why))
+  ungot now why a b d = record { writings = []; did = did_reading (IsGetCall k uuid) IsFor [] 1 2 a b _ _ d (λ call g. inl (getting k secret uuid call g)) (omega arith) (λ t h s. unmade s why now t (inl h)) }
 
-  module _ (measure : Option Measure) (a b c : Told) (d : Did IsGetting 1 a b (MeasureOutcome k secret uuid (Ok measure))) where
-    for_device : (call : Call) → IsIdsigCall (o measure) call → IsForFound disk call
+  module _ (measure : Option Measure) (a b c : Told) (d : Did (IsGetCall k uuid) 1 a b (MeasureOutcome k secret uuid (Ok measure))) where
+    for_device : (call : Call) → IsIdsigCall (o measure) call → IsFor call
     for_device call is = inr (parts.1, is.call_is)
 
-    two : (w : List Writing) (P R : Trace → Type 0) → Did (IsIdsigCall (o measure)) 1 b c P
+    two : (n : ℕ) → Did (IsGetCall k uuid) n a b (MeasureOutcome k secret uuid (Ok measure)) → (w : List Writing) (P R : Trace → Type 0) → Did (IsIdsigCall (o measure)) 1 b c P
         → ((x y : Exchanges) (failed : ℕ) → a.faults ≤ b.faults → Measured k secret uuid x measure → P (trace_of y failed b c) → R (trace_of (x ++ y) failed a c))
-        → DidBy (ReadsOrWrites (IsForFound disk) w) 2 a c R
-    two w P R e f =
-        did_by_then (ReadsOrWrites (IsForFound disk) w) 1 1 a b c (MeasureOutcome k secret uuid (Ok measure)) P R
-        (did_reading IsGetting (IsForFound disk) w 1 1 a b _ _ d (λ call g. inl g) (omega arith) (λ t p. p))
-        (did_reading (IsIdsigCall (o measure)) (IsForFound disk) w 1 1 b c _ _ e for_device (omega arith) (λ t p. p)) (λ t p. p.0) (λ x y failed le p q. f x y failed le p.1 q)
+        → DidBy (ReadsOrWrites IsFor w) (n + 1) a c R
+    two n first w P R e f =
+        did_by_then (ReadsOrWrites IsFor w) n 1 a b c (MeasureOutcome k secret uuid (Ok measure)) P R
+        (did_reading (IsGetCall k uuid) IsFor w n n a b _ _ first (λ call g. inl (getting k secret uuid call g)) (omega arith) (λ t p. p))
+        (did_reading (IsIdsigCall (o measure)) IsFor w 1 1 b c _ _ e for_device (omega arith) (λ t p. p)) (λ t p. p.0) (λ x y failed le p q. f x y failed le p.1 q)
 
     pub unopened : (now : Recorded) (why : BootCause) (new : List Device) → Did (IsIdsigCall (o measure)) 1 b c (DeviceOutcome disk parts measure items new (Err why))
-        → DidWriting (IsForFound disk) 3 a c (MeasuredDone disk parts uuid secret old now (Err why))
+        → DidWriting (IsForFound (Some k.disk) disk) 2 a c (MeasuredDone disk parts uuid secret old now (Err why))
     unopened now why new e = record {
       writings = [];
-      did = did_as _ _ 2 3 a c _ _ (two [] _ (MeasuredDone disk parts uuid secret old now (Err why) []) e
+      did = did_as _ _ 2 2 a c _ _ (two 1 d [] _ (MeasuredDone disk parts uuid secret old now (Err why) []) e
           (λ x y failed le p q s. unmade s why now _ (inr (record { got = x; rest = y; cut = refl; measure = measure; measured = p; fails = device_later a b c y failed le (o measure) why q }))))
           (λ call given g. g) (omega arith) (λ t p. p);
     }
 
     module _ (new : List Device) (m : Measure) (e : Did (IsIdsigCall (o measure)) 1 b c (DeviceOutcome disk parts measure items new (Ok m))) where
       -- the record gave the measure
-      pub opened_by : (kept : Measure) → measure ≡ Some kept → DidWriting (IsForFound disk) 3 a c (MeasuredDone disk parts uuid secret old (record { image = k; entropy = entropy; items = new }) (Ok tt))
+      pub opened_by : (kept : Measure) → measure ≡ Some kept → DidWriting (IsForFound (Some k.disk) disk) 2 a c (MeasuredDone disk parts uuid secret old (record { image = k; entropy = entropy; items = new }) (Ok tt))
       opened_by kept is = record {
         writings = [];
-        did = did_as _ _ 2 3 a c _ _ (two [] _ (MeasuredDone disk parts uuid secret old (record { image = k; entropy = entropy; items = new }) (Ok tt) []) e
+        did = did_as _ _ 2 2 a c _ _ (two 1 d [] _ (MeasuredDone disk parts uuid secret old (record { image = k; entropy = entropy; items = new }) (Ok tt) []) e
             (λ x y failed le p q s. (
               q.0,
               record {
@@ -315,10 +353,6 @@ module _ (disk : ℕ) (parts : Span × Span) (uuid secret : List ℕ) (k : Kept)
 
       -- the record is empty, and the device's measure was to be put
       module _ (empty : measure ≡ None) (now : Kept) (left : List ℕ) (z : Told) where
-        is_empty : (x : Exchanges) (g : Option Measure) → g ≡ None → Measured k secret uuid x g → (x ≡ []) × IsEmpty k uuid
-        is_empty x None e p = p
-        is_empty x (Some g) e p = absurd cc
-
         abbrev finish : Recorded
         finish = record { image = now; entropy = left; items = new }
 
@@ -379,7 +413,7 @@ module _ (disk : ℕ) (parts : Span × Span) (uuid secret : List ℕ) (k : Kept)
           dev : DeviceBoots disk parts measure items opened new
           same : dev.device.measure ≡ m
 
-        no_call : (call : Call) (given : List ℕ) → ReadsOrWrites (λ call. ⊥) (measure_writings k secret uuid entropy m) call given → ReadsOrWrites (IsForFound disk) (measure_writings k secret uuid entropy m) call given
+        no_call : (call : Call) (given : List ℕ) → ReadsOrWrites (λ call. ⊥) (measure_writings k secret uuid entropy m) call given → ReadsOrWrites IsFor (measure_writings k secret uuid entropy m) call given
         no_call call given (inl r) = absurd r.0
         no_call call given (inr i) = inr i
 
@@ -390,12 +424,12 @@ module _ (disk : ℕ) (parts : Span × Span) (uuid secret : List ℕ) (k : Kept)
             (subst (Ends s result b.got b.opened r failed) b.same (ended s result b.got b.opened r failed measure empty le b.measured b.dev) h)
 
         pub opened_first : (result : Result (Unit {0}) BootCause) → DidBy (ReadsOrWrites (λ call. ⊥) (measure_writings k secret uuid entropy m)) 1 c z (KeepOutcome k uuid entropy m now left result)
-            → DidWriting (IsForFound disk) 3 a z (MeasuredDone disk parts uuid secret old finish result)
+            → DidWriting (IsForFound (Some k.disk) disk) 2 a z (MeasuredDone disk parts uuid secret old finish result)
         opened_first result f = record {
           writings = measure_writings k secret uuid entropy m;
-          did = did_by_then (ReadsOrWrites (IsForFound disk) (measure_writings k secret uuid entropy m)) 2 1 a c z Before (KeepOutcome k uuid entropy m now left result)
+          did = did_by_then (ReadsOrWrites IsFor (measure_writings k secret uuid entropy m)) 1 1 a c z Before (KeepOutcome k uuid entropy m now left result)
               (MeasuredDone disk parts uuid secret old finish result (measure_writings k secret uuid entropy m))
-              (two (measure_writings k secret uuid entropy m) _ Before e (λ x y failed le p q. record { failed = q.0; got = x; opened = y; cut = refl; measured = p; dev = q.1; same = q.2 }))
+              (two 0 (nothing_got k secret uuid measure a b d empty) (measure_writings k secret uuid entropy m) _ Before e (λ x y failed le p q. record { failed = q.0; got = x; opened = y; cut = refl; measured = p; dev = q.1; same = q.2 }))
               (did_as _ _ 1 1 c z _ _ f no_call (omega arith) (λ t p. p))
               (λ t p. p.failed) (λ x r failed le p q s. finished s result x r failed le p q);
         }

@@ -1,5 +1,5 @@
 -- One line after another.
-use Rattle.std.proofs.Common.{◌≡◌, ℕ, zero, suc, ◌+◌, ◌<◌, ◌≤◌, ◌∙◌, List, [], ◌∷◌, ◌++◌, length, take, drop, get_or, Option, Some, Ok, Err, refl, ap, sym, subst, inl, inr, arith, append_assoc, append-nil, add-one}
+use Rattle.std.proofs.Common.{◌≡◌, ℕ, zero, suc, ◌+◌, ◌<◌, ◌≤◌, ◌∙◌, List, [], ◌∷◌, ◌++◌, length, take, drop, get_or, Option, Some, None, Ok, Err, refl, ap, sym, subst, inl, inr, arith, append_assoc, append-nil, add-one}
 use Rattle.std.specs.Prelude.{slice_get, ◌⊎◌}
 use Rattle.std.proofs.lemmas.Option.{slice_get_read}
 use Rattle.std.proofs.lemmas.List.{length-take}
@@ -16,6 +16,7 @@ use Rattle.ro_file.specs.declared.files.RoFault.{RoFault}
 use Rattle.ro_file.specs.declared.files.RoFault.TheVariants as files
 use Rattle.ro_file.specs.Opening.{IsDescriptorCall, IsRefused}
 use Rattle.mg_base.specs.declared.values.Span.{Span}
+use Rattle.sha_tree.specs.declared.measure.Measure.{Measure}
 use Rattle.guest_plan.specs.declared.plan.How.{How}
 use Rattle.guest_plan.specs.declared.plan.How.TheVariants as measures
 use Rattle.guest_plan.specs.declared.plan.PlanLine.{PlanLine}
@@ -27,7 +28,7 @@ use Rattle.guest_boot.specs.declared.faults.BootFault.{BootFault}
 use Rattle.guest_boot.specs.declared.lines.Boot.{Boot}
 use Rattle.guest_boot.specs.Finding.{TableNext, TableOn, FindFails, both_parts}
 use Rattle.guest_boot.specs.Recording.{Writing, ReadsOrWrites, DidWriting, MeasureFails}
-use Rattle.guest_boot.specs.Booting.{Booted, Boots, LineBoots, LineFails, ApkFails, ApkFailsBy, ApkIsRefused, FileFails, WriteFails, IsResize, FoundFails, OpeningFails, KeepingFails, RecordedFails, LineDone, InstanceLine, instance_from, instance_in, Means, BootsFrom, IsForLine, IsForLines, most_of, most_in_place, most_of_instance, measure_in, state_of, before_lines, InstanceOutcome, BootOutcome}
+use Rattle.guest_boot.specs.Booting.{Booted, Boots, LineBoots, LineFails, ApkFails, ApkFailsBy, ApkIsRefused, FileFails, WriteFails, IsResize, FoundFails, OpeningFails, KeepingFails, RecordedFails, LineDone, FoundBoots, MeasureIsIn, disk_of, instance_disk, InstanceBoots, InstanceLine, instance_from, instance_in, Means, BootsFrom, IsForLine, IsForLines, most_of, most_in_place, most_of_instance, measure_in, state_of, before_lines, InstanceOutcome, BootOutcome}
 use Rattle.guest_boot.proofs.Makes.{open_later}
 use Rattle.guest_boot.proofs.Recording.{did_as, did_reading, written_left, written_right, device_later, keep_later, measure_later}
 
@@ -80,6 +81,45 @@ boots_on s mid new [] l x y h b =
     (y, [], new, ap (λ (z : Exchanges). z ++ y) h.0 ∙ sym (append-nil y), subst (λ (z : Booted). LineBoots z l y new) h.1 b, (refl, refl))
 boots_on s mid new (k ∷ xs) l x y h b =
     (h.0, h.1 ++ y, h.2, ap (λ (z : Exchanges). z ++ y) h.3 ∙ append_assoc h.0 h.1 y, h.4, boots_on h.2 mid new xs l h.1 y h.5 b)
+
+-- ---- no line moves the image to another disk
+
+abbrev same_disk : Booted → Booted → Type 0
+same_disk s new = disk_of new.image ≡ disk_of s.image
+
+same_as : (s new like : Booted) → new ≡ like → same_disk s like → same_disk s new
+same_as s new like e h = ap (λ (z : Booted). disk_of z.image) e ∙ h
+
+measure_disk : (s : Booted) (image : Kept) (secret uuid : List ℕ) (measure : Option Measure) (m : Measure) (own : Exchanges) (new : Booted) → s.image ≡ Some image
+    → MeasureIsIn s image secret uuid measure m own new → same_disk s new
+measure_disk s image secret uuid (Some kept) m own new is h = same_as s new _ h.1 refl
+measure_disk s image secret uuid None m own new is h = same_as s new _ h.new_is (ap (λ (k : Kept). disk_of (Some k)) h.keeps.1.now_is ∙ sym (ap disk_of is))
+
+found_disk : (s : Booted) (disk : ℕ) (parts : Span × Span) (uuid : List ℕ) (own : Exchanges) (new : Booted) → FoundBoots s disk parts uuid own new → same_disk s new
+found_disk s disk parts uuid own new b = measure_disk (record s { items = b.items }) b.image b.secret uuid b.measure b.boots.device.measure b.put new b.image_is b.kept
+
+line_disk : (s : Booted) (l : PlanLine) (own : Exchanges) (new : Booted) → LineBoots s l own new → same_disk s new
+line_disk s (line.Instance disk part) own new b = same_as s new _ b.1 refl
+line_disk s (line.Blob file m) own new b = same_as s new _ b.1 refl
+line_disk s (line.Apk disk apk idsig (measures.Fixed m)) own new b = same_as s new _ b.new_is refl
+line_disk s (line.Apk disk apk idsig measures.First) own new b = same_as s new _ b.new_is refl
+line_disk s (line.Apk disk apk idsig (measures.Kept uuid)) own new b = found_disk (record s { tables = b.tables }) disk b.parts uuid.0 b.rest new b.behind
+line_disk s (line.File name file digest) own new b = same_as s new _ b.new_is refl
+line_disk s (line.Write name file) own new b = same_as s new _ b.1 refl
+line_disk s (line.WriteDir name file) own new b = same_as s new _ b.1 refl
+
+boots_disk : (s new : Booted) (lines : List PlanLine) (own : Exchanges) → Boots s lines own new → same_disk s new
+boots_disk s new [] own b = same_as s new _ b.1 refl
+boots_disk s new (l ∷ lines) own b = boots_disk b.2 new lines b.1 b.5 ∙ line_disk s l b.0 b.2 b.4
+
+instance_on : (i : Option InstanceLine) (salt : Option (List ℕ)) (own : Exchanges) (tables : List TableOn) (image : Option Kept) → InstanceBoots i salt own tables image → disk_of image ≡ instance_disk i
+instance_on None salt own tables image b = ap disk_of b.2
+instance_on (Some i) None own tables image b = absurd b
+instance_on (Some i) (Some salt) own tables image b = ap disk_of b.1 ∙ ap (λ (k : Kept). disk_of (Some k)) b.2.opened.is
+
+-- so it is on that of the instance line
+pub image_on : (i : Option InstanceLine) (means : Means) (lines : List PlanLine) (own : Exchanges) (new : Booted) → BootsFrom i means lines own new → disk_of new.image ≡ instance_disk i
+image_on i means lines own new b = boots_disk _ new lines b.rest b.others ∙ instance_on i means.salt b.first b.tables b.image b.before
 
 -- ---- a line that failed, seen from before
 
@@ -137,7 +177,7 @@ module _ (a b c : Told) (y : Exchanges) (failed : ℕ) (le : a.faults ≤ b.faul
   file_later file digest MeasureText h = h
   file_later file digest (Failed faults) h = h
   file_later file digest (Short asked got) h = h
-  file_later file digest Memory h = h
+  file_later file digest Memory h = record { own = h.own; failed = h.failed }
 
   write_later : (file : ℕ) (why : BootCause) → WriteFails file why (trace_of y failed b c) → WriteFails file why (trace_of y failed a c)
   write_later file (Failed faults) h = (h.0, failed_later (IsResize file) a b c [] y failed faults le h.1)
@@ -257,18 +297,23 @@ SoFar means lines front boot writings t = (t.failed ≡ 0) × BootsFrom (instanc
 
 module _ (means : Means) (lines : List PlanLine) (i : ℕ) (l : PlanLine) (lt : i < length lines) (is : l ≡ get_or lines i l) (a b c : Told) (s : Boot)
     (d : DidWriting (IsForLines lines) (most_so_far lines (take i lines)) a b (SoFar means lines (take i lines) s)) where
-  for_lines : (call : Call) → IsForLine l call → IsForLines lines call
-  for_lines call f = record { at = i; line = l; stands = slice_get_read lines (length lines) i l refl lt is; for = f }
+  for_lines : (call : Call) → IsForLine (disk_of s.image) l call → IsForLines lines call
+  for_lines call f = record {
+    at = i;
+    line = l;
+    stands = slice_get_read lines (length lines) i l refl lt is;
+    for = subst (λ (z : Option ℕ). IsForLine z l call) (image_on (instance_in lines) means (take i lines) _ _ d.did.outcome.1) f;
+  }
 
   wider_first : (w : List Writing) (call : Call) (given : List ℕ) → ReadsOrWrites (IsForLines lines) d.writings call given → ReadsOrWrites (IsForLines lines) (d.writings ++ w) call given
   wider_first w call given (inl r) = inl r
   wider_first w call given (inr r) = inr (written_left d.writings w call given r)
 
-  wider_later : (w : List Writing) (call : Call) (given : List ℕ) → ReadsOrWrites (IsForLine l) w call given → ReadsOrWrites (IsForLines lines) (d.writings ++ w) call given
+  wider_later : (w : List Writing) (call : Call) (given : List ℕ) → ReadsOrWrites (IsForLine (disk_of s.image) l) w call given → ReadsOrWrites (IsForLines lines) (d.writings ++ w) call given
   wider_later w call given (inl r) = inl (for_lines call r.0, r.1)
   wider_later w call given (inr r) = inr (written_right d.writings w call given r)
 
-  both : (most : ℕ) (P R : List Writing → Trace → Type 0) (e : DidWriting (IsForLine l) (most_in_place l) b c P) → most_so_far lines (take i lines) + most_in_place l ≤ most
+  both : (most : ℕ) (P R : List Writing → Trace → Type 0) (e : DidWriting (IsForLine (disk_of s.image) l) (most_in_place l) b c P) → most_so_far lines (take i lines) + most_in_place l ≤ most
       → ((x y : Exchanges) (failed : ℕ) → a.faults ≤ b.faults → BootsFrom (instance_in lines) means (take i lines) x (state_of s means.secret d.writings) → P e.writings (trace_of y failed b c) → R (d.writings ++ e.writings) (trace_of (x ++ y) failed a c))
       → DidWriting (IsForLines lines) most a c R
   both most P R e few f = record {
@@ -284,14 +329,14 @@ module _ (means : Means) (lines : List PlanLine) (i : ℕ) (l : PlanLine) (lt : 
   few_next : most_so_far lines (take i lines) + most_in_place l ≤ most_so_far lines (take i lines ++ l ∷ [])
   few_next = omega (arith, placed_next (take i lines) l)
 
-  pub goes_on : (new : Boot) (u : Unit {0}) → DidWriting (IsForLine l) (most_in_place l) b c (LineDone means.secret s l new (Ok u))
+  pub goes_on : (new : Boot) (u : Unit {0}) → DidWriting (IsForLine (disk_of s.image) l) (most_in_place l) b c (LineDone means.secret s l new (Ok u))
       → DidWriting (IsForLines lines) (most_so_far lines (take (i + 1) lines)) a c (SoFar means lines (take (i + 1) lines) new)
   goes_on new u e =
       subst (λ (front : List PlanLine). DidWriting (IsForLines lines) (most_so_far lines front) a c (SoFar means lines front new)) (sym (take_next lines i l lt is))
       (both _ _ (SoFar means lines (take i lines ++ l ∷ []) new) e few_next (λ x y failed le p q.
       let one = q d.writings in (one.0, from_on (instance_in lines) means (state_of s means.secret d.writings) (state_of new means.secret (d.writings ++ e.writings)) (take i lines) l x y p one.1)))
 
-  pub stops : (numbers : List ℕ) (n : ℕ) (why : BootCause) (new : Boot) → slice_get numbers i ≡ Some n → DidWriting (IsForLine l) (most_in_place l) b c (LineDone means.secret s l new (Err why))
+  pub stops : (numbers : List ℕ) (n : ℕ) (why : BootCause) (new : Boot) → slice_get numbers i ≡ Some n → DidWriting (IsForLine (disk_of s.image) l) (most_in_place l) b c (LineDone means.secret s l new (Err why))
       → DidWriting (IsForLines lines) (most_of lines) a c (BootOutcome means lines numbers (Err (record { line = n; why = why })))
   stops numbers n why new at e =
       let cut = split_at lines i l lt is in

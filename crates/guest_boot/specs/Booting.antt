@@ -104,37 +104,42 @@ IsForApk disk call = IsTableCall disk call ⊎ ((part : Span) × (call ≡ Block
 abbrev pub IsForImage : ℕ → Call → Type 0
 IsForImage disk call = IsTableCall disk call ⊎ ((sector : ℕ) × (call ≡ BlockRead disk sector 1))
 
--- where the measure is in a record: behind the parts, the record and the idsig
-abbrev pub IsForFound : ℕ → Call → Type 0
-IsForFound disk call = IsGetting call ⊎ ((part : Span) × (call ≡ BlockRead disk part.first (min part.sectors 136)))
+-- where the measure is in a record of the image on a disk: behind the parts, the record and the idsig
+abbrev pub IsForFound : Option ℕ → ℕ → Call → Type 0
+IsForFound image disk call = IsGetting image call ⊎ ((part : Span) × (call ≡ BlockRead disk part.first (min part.sectors 136)))
 
-abbrev pub IsForRecorded : ℕ → Call → Type 0
-IsForRecorded disk call = IsTableCall disk call ⊎ IsForFound disk call
+abbrev pub IsForRecorded : Option ℕ → ℕ → Call → Type 0
+IsForRecorded image disk call = IsTableCall disk call ⊎ IsForFound image disk call
 
-abbrev pub IsForMeasured : ℕ → How → Call → Type 0
-IsForMeasured disk (measures.Fixed m) call = IsForApk disk call
-IsForMeasured disk measures.First call = IsForApk disk call
-IsForMeasured disk (measures.Kept uuid) call = IsForRecorded disk call
+abbrev pub IsForMeasured : Option ℕ → ℕ → How → Call → Type 0
+IsForMeasured image disk (measures.Fixed m) call = IsForApk disk call
+IsForMeasured image disk measures.First call = IsForApk disk call
+IsForMeasured image disk (measures.Kept uuid) call = IsForRecorded image disk call
 
 -- a writable file is cut to nothing
 abbrev pub IsResize : ℕ → Call → Type 0
 IsResize file call = call ≡ Resize file 0
 
--- The calls that hand nothing over. What a line writes into a record is said by what came of it (`Writing`).
-abbrev pub IsForLine : PlanLine → Call → Type 0
-IsForLine (line.Instance disk part) call = IsForImage disk call
-IsForLine (line.Blob file m) call = ⊥
-IsForLine (line.Apk disk apk idsig how) call = IsForMeasured disk how call
-IsForLine (line.File name file digest) call = call ≡ DescriptorOf file
-IsForLine (line.Write name file) call = IsResize file call
-IsForLine (line.WriteDir name file) call = ⊥
+-- The calls that hand nothing over, where the plan has an instance image on this disk, if any. What a line writes into a record is
+-- said by what came of it (`Writing`).
+abbrev pub IsForLine : Option ℕ → PlanLine → Call → Type 0
+IsForLine image (line.Instance disk part) call = IsForImage disk call
+IsForLine image (line.Blob file m) call = ⊥
+IsForLine image (line.Apk disk apk idsig how) call = IsForMeasured image disk how call
+IsForLine image (line.File name file digest) call = call ≡ DescriptorOf file
+IsForLine image (line.Write name file) call = IsResize file call
+IsForLine image (line.WriteDir name file) call = ⊥
+
+abbrev pub instance_disk : Option InstanceLine → Option ℕ
+instance_disk None = None
+instance_disk (Some i) = Some i.disk
 
 -- it is one of a line
 pub record IsForLines (lines : List PlanLine) (call : Call) : Type 0 where
   pub at : ℕ
   pub line : PlanLine
   pub stands : slice_get lines at ≡ Some line
-  pub for : IsForLine line call
+  pub for : IsForLine (instance_disk (instance_in lines)) line call
 
 -- How many calls a line makes at most, failed ones counted. Before the lines, the instance line asks for the size of its disk, its
 -- two ends, and 258 sectors of the image.
@@ -146,12 +151,12 @@ most_before (line.File name file digest) = 0
 most_before (line.Write name file) = 0
 most_before (line.WriteDir name file) = 0
 
--- In its place, an APK device asks for the size of its disk, its two ends and its idsig, and gets or puts its record, where its
--- measure is in one; a read-only file asks for its descriptor, and a writable one is cut.
+-- In its place, an APK device asks for the size of its disk, its two ends and its idsig, and where its measure is in a record, gets
+-- that or, where it is empty, puts it; a read-only file asks for its descriptor, and a writable one is cut.
 abbrev pub most_measured : How → ℕ
 most_measured (measures.Fixed m) = 4
 most_measured measures.First = 4
-most_measured (measures.Kept uuid) = 6
+most_measured (measures.Kept uuid) = 5
 
 abbrev pub most_in_place : PlanLine → ℕ
 most_in_place (line.Instance disk part) = 0
@@ -195,6 +200,11 @@ state_of b secret writings = record {
   entropy = b.entropy;
   writings = writings;
 }
+
+-- the disk of the image
+abbrev pub disk_of : Option Kept → Option ℕ
+disk_of None = None
+disk_of (Some k) = Some k.disk
 
 -- the same, with nothing said of secret and writes
 abbrev pub plain_of : Boot → Booted
@@ -402,26 +412,18 @@ pub record ApkIsRefused (s : Booted) (disk : ℕ) (apk idsig : List ℕ) (how : 
   pub found : Finds s.tables disk (both_parts apk idsig) first tables parts
   pub outcome : apk_opening.OpenOutcome (apk_opening.opening disk parts.0 parts.1 (measure_in how)) (Err why) (later_of t rest)
 
--- there was no memory: the table's exchanges were made as far as that, or all exchanges of the line
-abbrev pub ApkStops : Booted → ℕ → List ℕ → List ℕ → How → Exchanges → Type 0
-ApkStops s disk apk idsig how own =
-    HasSoFar (table_on disk s.tables) disk own ⊎ ((new : Booted) × ApkBoots s disk apk idsig how own new)
-
+-- Out of memory the table's exchanges were made as far as that, and the idsig wasn't heard.
 abbrev pub ApkFails : Booted → ℕ → List ℕ → List ℕ → How → BootCause → Trace → Type 0
-ApkFails s disk apk idsig how Memory t = (t.failed ≡ 0) × ApkStops s disk apk idsig how t.own
+ApkFails s disk apk idsig how Memory t = (t.failed ≡ 0) × HasSoFar (table_on disk s.tables) disk t.own
 ApkFails s disk apk idsig how (Apk apks.Memory) t = ⊥
 ApkFails s disk apk idsig how (Apk why) t = ApkIsRefused s disk apk idsig how why t
 ApkFails s disk apk idsig how why t = FindFails s.tables disk (both_parts apk idsig) why t
 
--- why the device of two parts was not opened: where there was no memory, nothing was heard, or the idsig of a device that opens
-abbrev pub DeviceStops : Opening → Exchanges → Type 0
-DeviceStops o own =
-    (own ≡ []) ⊎ ((bytes : List ℕ) × (device : Device) × (own ≡ (apk_opening.idsig_call o, Bytes bytes) ∷ []) × (apk_opening.opened o bytes ≡ Ok device))
-
+-- Why the device of two parts was not opened. Out of memory the idsig wasn't heard, so no refusal that comes behind it is hidden.
 abbrev pub DeviceFails : Opening → BootCause → Trace → Type 0
 DeviceFails o (Apk apks.Memory) t = ⊥
 DeviceFails o (Apk why) t = apk_opening.OpenOutcome o (Err why) t
-DeviceFails o Memory t = (t.failed ≡ 0) × DeviceStops o t.own
+DeviceFails o Memory t = IsQuiet t
 DeviceFails o (Gpt why) t = ⊥
 DeviceFails o (NoPart name) t = ⊥
 DeviceFails o (File why) t = ⊥
@@ -491,15 +493,11 @@ ApkFailsBy s disk apk idsig (measures.Fixed m) why after t = (after ≡ s.writin
 ApkFailsBy s disk apk idsig measures.First why after t = (after ≡ s.writings) × ApkFails s disk apk idsig measures.First why t
 ApkFailsBy s disk apk idsig (measures.Kept uuid) why after t = RecordedFails s disk apk idsig uuid.0 why after t
 
--- there was no memory: nothing was heard, or the descriptor of a file that opens
-abbrev pub FileStops : ℕ → Digest → Exchanges → Type 0
-FileStops file digest own =
-    (own ≡ []) ⊎ ((bytes : List ℕ) × (f : MeasuredFile) × (own ≡ (DescriptorOf file, Bytes bytes) ∷ []) × (file_opening.opened file digest bytes ≡ Ok f))
-
+-- out of memory the descriptor wasn't heard
 abbrev pub FileFails : ℕ → Digest → BootCause → Trace → Type 0
 FileFails file digest (File files.Memory) t = ⊥
 FileFails file digest (File why) t = file_opening.OpenFileOutcome file digest (Err why) t
-FileFails file digest Memory t = (t.failed ≡ 0) × FileStops file digest t.own
+FileFails file digest Memory t = IsQuiet t
 FileFails file digest other t = ⊥
 
 -- The call failed, and was the last; or the host had no memory for it.

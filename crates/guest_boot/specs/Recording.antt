@@ -1,6 +1,7 @@
 -- The measure that a record keeps: how it is got at boot, and how it is put where the record is empty.
-use Rattle.std.specs.Prelude.{◌≡◌, ◌⊎◌, ℕ, ◌<◌, ◌≤◌, List, [], ◌∷◌, length, take, drop, nat_lt, if◌then◌else◌, Option, Some, None, Result, Ok, Err}
+use Rattle.std.specs.Prelude.{◌≡◌, ◌⊎◌, ℕ, ◌+◌, ◌<◌, ◌≤◌, List, [], ◌∷◌, length, take, drop, nat_lt, if◌then◌else◌, Option, Some, None, Result, Ok, Err}
 use Rattle.host_traits.specs.declared.calls.Call.{Call}
+use Rattle.host_traits.specs.declared.calls.Call.TheVariants.{BlockRead}
 use Rattle.host_traits.specs.declared.calls.Said.TheVariants.{Bytes}
 use Rattle.host_traits.specs.Told.{Told, Exchanges}
 use Rattle.host_traits.specs.Did.{Trace, IsFailed, DidBy, reads}
@@ -10,7 +11,7 @@ use Rattle.instance_image.specs.declared.faults.GetFault.TheVariants as gets
 use Rattle.instance_image.specs.declared.faults.PutFault.{PutFault}
 use Rattle.instance_image.specs.declared.faults.PutFault.TheVariants as puts
 use Rattle.instance_image.specs.declared.values.Part.{Part}
-use Rattle.instance_image.specs.Records.{Kept, find_part, size_of, fits_in}
+use Rattle.instance_image.specs.Records.{Kept, sectors_of, find_part, size_of, fits_in}
 use Rattle.instance_image.specs.Sealings.{Sealing}
 use Rattle.instance_image.specs.Access.{get_call, HasRecord, IsText, GetOutcome, put_call, sealing_of, record_bytes, IsPut, IsPutCall, IsPutSomewhere}
 use Rattle.guest_plan.specs.Spelling.{measure_text}
@@ -48,9 +49,10 @@ pub record IsQuiet (t : Trace) : Type 0 where
 
 -- ---- a measure that is got
 
--- a read of a record
-abbrev pub IsGetting : Call → Type 0
-IsGetting call = (k : Kept) × (part : Part) × (part.size ≤ 65564) × (call ≡ get_call k part)
+-- a read of a record, of the image on this disk, if any
+abbrev pub IsGetting : Option ℕ → Call → Type 0
+IsGetting None call = ⊥
+IsGetting (Some disk) call = (sector : ℕ) × (size : ℕ) × (size ≤ 65564) × (call ≡ BlockRead disk sector (1 + sectors_of size))
 
 -- the one exchange is that of the record, which opens to the text of this measure
 pub record GivesMeasure (k : Kept) (secret uuid : List ℕ) (own : Exchanges) (m : Measure) : Type 0 where
@@ -114,10 +116,10 @@ writings_if k secret uuid entropy m (Ok part) = if nat_lt (length entropy) 12 th
 abbrev pub measure_writings : Kept → List ℕ → List ℕ → List ℕ → Measure → List Writing
 measure_writings k secret uuid entropy m = writings_if k secret uuid entropy m (fits_in k.parts uuid (length (measure_text m)))
 
--- Why no measure was put: the text doesn't fit, or too few bytes of entropy were left, and no call was made; or the write failed; or
--- there was no memory.
+-- Why no measure was put into an empty record: the text doesn't fit, or too few bytes of entropy were left, and no call was made; or
+-- the write failed; or there was no memory, which is told only where the text fits and there is entropy.
 abbrev pub KeepFails : Kept → List ℕ → List ℕ → Measure → BootCause → Trace → Type 0
-KeepFails k uuid entropy m (Put puts.NoRecord) t = IsQuiet t × (fits_in k.parts uuid (length (measure_text m)) ≡ Err puts.NoRecord)
+KeepFails k uuid entropy m (Put puts.NoRecord) t = ⊥
 KeepFails k uuid entropy m (Put (puts.TooLarge text room)) t = IsQuiet t × (fits_in k.parts uuid (length (measure_text m)) ≡ Err (puts.TooLarge text room))
 KeepFails k uuid entropy m (Put puts.Memory) t = ⊥
 KeepFails k uuid entropy m (Put (puts.Failed faults)) t = (t.own ≡ []) × (12 ≤ length entropy) × IsFailed (IsPutCall k uuid (measure_text m)) t faults

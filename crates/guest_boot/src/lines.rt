@@ -7,7 +7,7 @@ ghost use Rattle.guest_plan.specs.Spelling.{IsPlan, IsServed, IsMeasuredBy, IsDe
 ghost use Rattle.guest_boot.specs.Recording.{DidWriting};
 ghost use Rattle.guest_boot.specs.Finding.{AreSpans};
 ghost use Rattle.apk_verity.specs.Opening.{opening, IsIdsigCall};
-ghost use Rattle.guest_boot.specs.Booting.{AreItems, apk_cause, file_cause, measure_in, plain_of, means_of, IsResize, IsForLine, most_in_place, IsForLines, most_of, IsForApk, IsForFound, IsForRecorded, BlobOutcome, ApkOutcome, FileOutcome, WriteOutcome, DeviceOutcome, MeasuredDone, FoundDone, RecordedDone, LineDone, BootOutcome};
+ghost use Rattle.guest_boot.specs.Booting.{AreItems, apk_cause, file_cause, measure_in, plain_of, means_of, disk_of, IsResize, IsForLine, most_in_place, IsForLines, most_of, IsForApk, IsForFound, IsForRecorded, BlobOutcome, ApkOutcome, FileOutcome, WriteOutcome, DeviceOutcome, MeasuredDone, FoundDone, RecordedDone, LineDone, BootOutcome};
 
 use crate::entropy::Entropy;
 use crate::faults::{BootCause, BootFault};
@@ -98,17 +98,13 @@ fn boot_apk<H: Host>(
         (ApkOutcome (plain_of boot.old) disk apk.now idsig.now how.now (plain_of boot.new) result) }
     ensures items { AreItems boot.new.items.items }
 {
-    let (first, second) = match parts_on(alloc, host, disk, apk, idsig, &mut boot.tables, raw) {
+    let parts = match parts_on(alloc, host, disk, apk, idsig, &mut boot.tables, raw) {
         Ok(parts) => parts,
         Err(why) => return Err(why),
     };
-    let device = match open_apk(host, disk, first, second, measure_in(how), raw) {
-        Ok(device) => device,
-        Err(fault) => return Err(apk_cause(fault)),
-    };
-    match boot.items.push(device) {
-        Ok(()) => Ok(()),
-        Err(_) => Err(BootCause::Memory),
+    match add_device(host, disk, parts, measure_in(how), &mut boot.items, raw) {
+        Ok(_) => Ok(()),
+        Err(why) => Err(why),
     }
 }
 
@@ -124,14 +120,16 @@ fn boot_file<H: Host>(
         (FileOutcome (plain_of boot.old) file digest.now (plain_of boot.new) result) }
     ensures items { boot.new.items ≡ boot.old.items }
 {
+    match boot.files.reserve(1) {
+        Ok(()) => {}
+        Err(_) => return Err(BootCause::Memory),
+    }
     let opened = match open_file(host, file, digest, raw) {
         Ok(opened) => opened,
         Err(fault) => return Err(file_cause(fault)),
     };
-    match boot.files.push(opened) {
-        Ok(()) => Ok(()),
-        Err(_) => Err(BootCause::Memory),
-    }
+    boot.files.push_reserved(opened);
+    Ok(())
 }
 
 // A writable file, which is cut to nothing at the host.
@@ -169,7 +167,7 @@ fn boot_blob(file: u32, measure: &Measure, boot: &mut Boot) -> Result<(), BootCa
     }
 }
 
-// The device of an APK's part and its idsig's, and its measure.
+// The device of an APK's part and its idsig's, and its measure. Its room is taken before its idsig is read.
 fn add_device<H: Host>(
     host: &mut H,
     disk: u32,
@@ -186,15 +184,17 @@ fn add_device<H: Host>(
         (option_copied measure.entry) items.old.items items.new.items result) }
     ensures items { AreItems items.new.items }
 {
+    match items.reserve(1) {
+        Ok(()) => {}
+        Err(_) => return Err(BootCause::Memory),
+    }
     let device = match open_apk(host, disk, parts.0, parts.1, measure, raw) {
         Ok(device) => device,
         Err(fault) => return Err(apk_cause(fault)),
     };
     let found = device.measure;
-    match items.push(device) {
-        Ok(()) => Ok(found),
-        Err(_) => Err(BootCause::Memory),
-    }
+    items.push_reserved(device);
+    Ok(found)
 }
 
 // An APK device of these parts whose measure is in the record of a UUID: the record is got, unless it is empty, and used as a
@@ -213,8 +213,8 @@ fn boot_measured<H: Host>(
 ) -> Result<(), BootCause>
     requires spans { AreSpans parts }
     requires items { AreItems items.old.items }
-    ensures did { DidWriting (IsForFound disk) 3 (H.told host.old) (H.told host.new)
-        (MeasuredDone disk parts uuid.now.0 secret.now
+    ensures did { DidWriting (IsForFound (Some image.old.disk) disk) 2 (H.told host.old)
+        (H.told host.new) (MeasuredDone disk parts uuid.now.0 secret.now
         (record { image = image.old; entropy = entropy.old; items = items.old.items })
         (record { image = image.new; entropy = entropy.new; items = items.new.items }) result) }
     ensures items { AreItems items.new.items }
@@ -246,7 +246,7 @@ fn boot_found<H: Host>(
 ) -> Result<(), BootCause>
     requires spans { AreSpans parts }
     requires items { AreItems boot.old.items.items }
-    ensures did { DidWriting (IsForFound disk) 3 (H.told host.old) (H.told host.new)
+    ensures did { DidWriting (IsForFound (disk_of boot.old.image) disk) 2 (H.told host.old) (H.told host.new)
         (FoundDone secret.now boot.old disk parts uuid.now.0 boot.new result) }
     ensures items { AreItems boot.new.items.items }
 {
@@ -283,7 +283,7 @@ fn boot_recorded<H: Host>(
     raw: &mut Raw,
 ) -> Result<(), BootCause>
     requires items { AreItems boot.old.items.items }
-    ensures did { DidWriting (IsForRecorded disk) 6 (H.told host.old) (H.told host.new)
+    ensures did { DidWriting (IsForRecorded (disk_of boot.old.image) disk) 5 (H.told host.old) (H.told host.new)
         (RecordedDone secret.now boot.old disk apk.now idsig.now uuid.now.0 boot.new result) }
     ensures items { AreItems boot.new.items.items }
 {
@@ -305,7 +305,7 @@ fn boot_line<H: Host>(
 ) -> Result<(), BootCause>
     requires served { IsServed line.now }
     requires items { AreItems boot.old.items.items }
-    ensures did { DidWriting (IsForLine line.now) (most_in_place line.now) (H.told host.old)
+    ensures did { DidWriting (IsForLine (disk_of boot.old.image) line.now) (most_in_place line.now) (H.told host.old)
         (H.told host.new) (LineDone secret.now boot.old line.now boot.new result) }
     ensures items { AreItems boot.new.items.items }
 {

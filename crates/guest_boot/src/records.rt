@@ -1,8 +1,9 @@
 // The measure that a record keeps.
 ghost use Rattle.std.specs.Prelude.{◌≡◌, ◌≤◌, length, Some, IfOk, IfSome};
 ghost use Rattle.host_traits.specs.Did.{Did, DidBy};
+ghost use Rattle.instance_image.specs.Access.{IsGetCall};
 ghost use Rattle.guest_plan.specs.Spelling.{IsDevice};
-ghost use Rattle.guest_boot.specs.Recording.{get_cause, put_cause, IsGetting, MeasureOutcome, ReadsOrWrites, measure_writings, KeepOutcome};
+ghost use Rattle.guest_boot.specs.Recording.{get_cause, put_cause, IsEmpty, MeasureOutcome, ReadsOrWrites, measure_writings, KeepOutcome};
 
 use crate::entropy::Entropy;
 use crate::faults::BootCause;
@@ -42,7 +43,7 @@ pub(crate) fn got_measure<H: Host>(
     uuid: &Guid,
     raw: &mut Raw,
 ) -> Result<Option<Measure>, BootCause>
-    ensures did { Did IsGetting 1 (H.told host.old) (H.told host.new)
+    ensures did { Did (IsGetCall image.now uuid.now.0) 1 (H.told host.old) (H.told host.new)
         (MeasureOutcome image.now secret.now uuid.now.0 result) }
     ensures device { IfOk result (λ o. IfSome o IsDevice) }
 {
@@ -62,7 +63,7 @@ pub(crate) fn got_measure<H: Host>(
     }
 }
 
-// Puts a measure into the record of a UUID, sealed under the next 12 bytes of entropy.
+// Puts a measure into the empty record of a UUID, sealed under the next 12 bytes of entropy.
 pub(crate) fn keep_measure<H: Host>(
     alloc: Global,
     host: &mut H,
@@ -72,6 +73,7 @@ pub(crate) fn keep_measure<H: Host>(
     uuid: &Guid,
     measure: &Measure,
 ) -> Result<(), BootCause>
+    requires { IsEmpty image.old uuid.now.0 }
     ensures { DidBy (ReadsOrWrites (λ call. ⊥)
         (measure_writings image.old secret.now uuid.now.0 entropy.old measure.now)) 1
         (H.told host.old) (H.told host.new) (KeepOutcome image.old uuid.now.0 entropy.old

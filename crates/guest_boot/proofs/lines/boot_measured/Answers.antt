@@ -3,8 +3,11 @@ use Rattle.host_traits.specs.Did.{Did}
 use Rattle.sha_tree.specs.declared.measure.Measure.{Measure}
 use Rattle.apk_verity.specs.Opening.{opening, IsIdsigCall}
 use Rattle.guest_boot.specs.Booting.{DeviceOutcome}
-use Rattle.guest_boot.proofs.Recording.{ungot, unopened, opened_by, opened_first}
+use Rattle.guest_boot.proofs.Recording.{ungot, unopened, opened_by, opened_first, is_empty}
 use Rattle.guest_boot.proofs.lines.boot_measured.Goals as goal
+
+pub keep_measure-requires : goal.keep_measure-requires
+keep_measure-requires g c = is_empty c.args.image.now c.args.secret.now c.args.uuid.now.0 c.in-Ok.measure c.in-None.is _ c.in-Ok.ensures.did.outcome.1
 
 pub returns-in-Err-clause-did : goal.returns-in-Err-clause-did
 returns-in-Err-clause-did g c =

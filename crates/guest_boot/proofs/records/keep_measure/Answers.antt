@@ -7,7 +7,7 @@ use Rattle.guest_boot.proofs.records.keep_measure.Goals as goal
 
 pub returns-in-Err : goal.returns-in-Err
 returns-in-Err g c =
-    rw c.put_cause.ensures (keep_refused c.args.image.now c.args.secret.now c.args.uuid.now.0 c.args.entropy.now c.args.measure.now c.args.image.now c.args.entropy.now c.in-Err.fault _ (sym (rw (c.bytes.ensures, c.measure_text-text.ensures.value) at c.in-Err.ensures)))
+    rw c.put_cause.ensures (keep_refused c.args.image.now c.args.secret.now c.args.uuid.now.0 c.args.entropy.now c.args.measure.now c.requires c.args.image.now c.args.entropy.now c.in-Err.fault _ (sym (rw (c.bytes.ensures, c.measure_text-text.ensures.value) at c.in-Err.ensures)))
 
 pub returns-in_default : goal.returns-in_default
 returns-in_default g c =
