@@ -8,7 +8,7 @@ import uuid
 TOP = f"{os.path.dirname(os.path.abspath(__file__))}/.."
 
 sys.path[:0] = [f"{TOP}/interop", f"{TOP}/vectors"]
-from fuse_model import File, Session, ask
+from fuse_model import File, Session, Written, ask
 from lib.devices import DONE, FAILED, TAPE, Device, number, reply, request, told
 
 

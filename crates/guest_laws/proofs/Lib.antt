@@ -26,3 +26,4 @@ pub mod Causes
 pub mod Lies
 pub mod Naming
 pub mod Measures
+pub mod Writes

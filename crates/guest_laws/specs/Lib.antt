@@ -5,3 +5,4 @@ pub mod Passing
 pub mod Lies
 pub mod Naming
 pub mod Measures
+pub mod Writes

@@ -2,6 +2,7 @@
 ghost use Rattle.guest_laws.specs.Fitting.{ApkReadsAreServed};
 ghost use Rattle.guest_laws.specs.Passing.{BootsPass};
 ghost use Rattle.guest_laws.specs.Measures.{MeasuresWereSealed};
+ghost use Rattle.guest_laws.specs.Writes.{WrittenIsRead};
 ghost use Rattle.guest_laws.specs.Naming.{NamesStay};
 ghost use Rattle.guest_laws.specs.Lies.{ItemMismatchesLie, ReadMismatchesLie};
 ghost use Rattle.guest_laws.specs.Seals.{HonestHostsForgeNone, GetsCauseNone, InstancesHaveSecrets};
@@ -65,9 +66,9 @@ pub fn mismatches_lie()
     ensures files { ReadMismatchesLie }
 {}
 
-/// Behind each run from the state after boot, each name of a plan's `file` line leads to its node, a read-only file with the
-/// line's number; no other name is found in the root; the root lists these names, and no others; and the files are those that
-/// boot opened. Its contract is the law; it does nothing.
+/// Behind each run from the state after boot, each name of a plan's `file` or `write` line leads to its node, a read-only or a writable
+/// file with the line's number; no other name is found in the root; the root lists these names, and no others; and the read-only
+/// files are those that boot opened. Its contract is the law; it does nothing.
 pub fn names_stay()
     ensures { NamesStay }
 {}
@@ -82,4 +83,10 @@ pub fn instances_have_secrets()
 /// for it but theirs. Its contract is the law; it does nothing.
 pub fn measures_were_sealed()
     ensures { MeasuresWereSealed }
+{}
+
+/// In a run from the state after boot each READ of a writable file that is answered with bytes has what was last written with success,
+/// whatever the host answered. Its contract is the law; it does nothing.
+pub fn written_is_read()
+    ensures { WrittenIsRead }
 {}
