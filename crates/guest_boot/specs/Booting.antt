@@ -355,11 +355,11 @@ pub record RecordsStay (s new : Booted) : Type 0 where
 abbrev pub ReadersWriteNothing : Type 0
 ReadersWriteNothing = (s : Booted) (lines : List PlanLine) (own : Exchanges) (new : Booted) → AllOnlyRead lines → Boots s lines own new → RecordsStay s new
 
--- it asks for bytes or a number, and changes nothing at the host
+-- it asks for bytes or a number, and for no change at the host
 abbrev pub IsRead : Call → Type 0
 IsRead call = kind_of call ≡ kind_done → ⊥
 
--- Law: nor does a call for them change anything at the host.
+-- Law: each call for them is such a one.
 abbrev pub ReadersOnlyRead : Type 0
 ReadersOnlyRead = (lines : List PlanLine) (call : Call) → AllOnlyRead lines → IsForLines lines call → IsRead call
 
