@@ -3,18 +3,16 @@ use Rattle.std.proofs.Common.{◌≡◌, ℕ, ◌*◌, ◌≤◌, ◌∙◌, zer
 use Rattle.std.specs.Prelude.{MatchOption, option_copied}
 use Rattle.mg_base.specs.declared.values.Span.{Span}
 use Rattle.host_traits.specs.declared.calls.Call.{Call}
-use Rattle.host_traits.specs.declared.calls.Said.TheVariants.{Bytes}
 use Rattle.host_traits.specs.Told.{Told, Exchanges}
 use Rattle.host_traits.specs.Did.{Did, Trace, trace_of}
 use Rattle.host_traits.proofs.Doing.{did_none, did_so, did_then, failed_later, short_later, scarce_later}
 use Rattle.apk_verity.specs.declared.ApkFault.{ApkFault}
 use Rattle.apk_verity.specs.declared.ApkFault.TheVariants as apks
-use Rattle.apk_verity.specs.Opening.{Opening, opening, idsig_call, IsIdsigCall, IsOpened, OpenOutcome, opened}
+use Rattle.apk_verity.specs.Opening.{Opening, opening, IsIdsigCall, IsOpened, OpenOutcome}
 use Rattle.guest_plan.specs.declared.plan.How.{How}
 use Rattle.mg_base.specs.declared.values.Digest.{Digest}
 use Rattle.ro_file.specs.declared.files.RoFault.{RoFault}
 use Rattle.ro_file.specs.declared.files.RoFault.TheVariants as files
-use Rattle.ro_file.specs.Files.{MeasuredFile}
 use Rattle.ro_file.specs.Opening.{IsDescriptorCall, OpenFileOutcome}
 use Rattle.guest_boot.specs.declared.faults.BootCause.{BootCause}
 use Rattle.guest_boot.specs.declared.faults.BootCause.TheVariants.{Gpt, NoPart, Apk, File, Image, Get, Put, NoEntropy, MeasureText, Failed, Short, Memory}

@@ -1,14 +1,12 @@
 -- What one line did, whatever the secret and the writes before it.
-use Rattle.std.proofs.Common.{◌≡◌, ℕ, ◌≤◌, List, [], ◌++◌, Option, Some, None, Result, Ok, Err, refl, ap, sym, subst, inl, inr, arith, append-nil}
+use Rattle.std.proofs.Common.{◌≡◌, ℕ, ◌≤◌, List, [], ◌++◌, Option, Some, Result, Ok, Err, refl, ap, sym, subst, inl, inr, arith, append-nil}
 use Rattle.host_traits.specs.Told.{Told, Exchanges}
 use Rattle.host_traits.specs.Did.{Did, Trace, trace_of}
 use Rattle.host_traits.specs.declared.calls.Call.{Call}
 use Rattle.host_traits.proofs.Doing.{did_none, did_by_then}
-use Rattle.std.specs.Prelude.{◌⊎◌}
 use Rattle.mg_base.specs.declared.values.Span.{Span}
 use Rattle.verity_path.specs.declared.device.Device.{Device}
 use Rattle.instance_image.specs.Records.{Kept}
-use Rattle.instance_image.specs.declared.faults.GetFault.TheVariants as gets
 use Rattle.apk_verity.specs.declared.ApkFault.{ApkFault}
 use Rattle.apk_verity.specs.declared.ApkFault.TheVariants as apks
 use Rattle.sha_tree.specs.declared.measure.Measure.{Measure}
@@ -196,14 +194,6 @@ module _ (secret : Option (List ℕ)) (s : Boot) (disk : ℕ) (apk idsig uuid : 
       wider call given (inr x) = inr x
 
 module _ (disk : ℕ) (parts : Span × Span) (uuid : List ℕ) (secret : Option (List ℕ)) (s : Boot) where
-  -- no image of records, or no secret
-  pub no_records : (new : Boot) (a : Told) → (s.image ≡ None) ⊎ (secret ≡ None) → DidWriting (IsForFound (disk_of s.image) disk) 2 a a (FoundDone secret s disk parts uuid new (Err (Get gets.NoRecord)))
-  no_records new a none = record {
-    writings = [];
-    did = did_reading (λ call. ⊥) (IsForFound (disk_of s.image) disk) [] 0 2 a a _ _ (did_none (λ call. ⊥) 0 a (λ t. (t.failed ≡ 0) × (t.own ≡ [])) (refl, refl)) (λ call x. absurd x) (omega arith)
-        (λ t h earlier. inl (none, refl, append-nil earlier, record { own = h.1; failed = h.0 }));
-  }
-
   pub with_records : (bytes : List ℕ) (image now : Kept) (entropy left : List ℕ) (items added : List Device) (new : Boot) (r : Result (Unit {0}) BootCause) (a b : Told) → secret ≡ Some bytes → s.image ≡ Some image
       → ((i : Option Kept) (k : Option (List ℕ)) (w : List Writing) → record (state_of s secret w) { image = i; secret = k } ≡ record (state_of s secret w) { image = i; secret = k; entropy = entropy; items = items })
       → ((k : Option (List ℕ)) (w : List Writing) → record (state_of new secret w) { secret = k } ≡ record (state_of s secret w) { image = Some now; secret = k; entropy = left; items = added })

@@ -1,6 +1,6 @@
 -- From a plan in the grammar to its lines.
 use Rattle.std.proofs.Common.{if◌then◌else◌, ◌≡◌, ℕ, zero, suc, ◌+◌, ◌<◌, ◌∙◌, get_or, List, [], ◌∷◌, ◌++◌, length, refl, ap, sym, subst, inl, inr, arith, Bool, true, false, ◌||◌, Option, Some, None, is_some, Ok, Err, Result}
-use Rattle.std.specs.Prelude.{slice_get, not, ◌&&◌}
+use Rattle.std.specs.Prelude.{slice_get, not, ◌&&◌, IsSome}
 use Rattle.std.specs.List.{AllByRecursion, list_any}
 use Rattle.std.proofs.lemmas.List.{length-append}
 use Rattle.host_traits.specs.declared.calls.Call.{Call}
@@ -13,10 +13,10 @@ use Rattle.guest_plan.specs.declared.plan.PlanLine.TheVariants as line
 use Rattle.guest_plan.specs.declared.plan.How.TheVariants as measures
 use Rattle.guest_plan.specs.declared.plan.Item.{Item}
 use Rattle.guest_plan.specs.declared.plan.Item.TheVariants.{Secret, InstanceSalt, Line}
-use Rattle.guest_plan.specs.Plans.{Known, nothing, add, clash, is_instance, first_lacking, has_keys, has_instance, is_kept}
+use Rattle.guest_plan.specs.Plans.{Known, nothing, add, clash, is_instance, first_lacking, has_keys, has_instance, is_kept, lacks}
 use Rattle.guest_plan.specs.Spelling.{IsPlan, IsServed, IsItem as IsSaid}
 use Rattle.guest_boot.specs.Finding.{IsTableCall}
-use Rattle.guest_boot.specs.Booting.{AreServed, PlansAreNumbered, InstanceLine, instance_from, instance_in, instance_disk, IsSalted, PlansAreSalted, InstanceIsAlone, Booted, LineBoots, OnlyReads, RecordsStay, ReadersWriteNothing, IsForApk, IsForImage, IsForLine, IsRead, ReadersOnlyRead}
+use Rattle.guest_boot.specs.Booting.{is_recorded, AreServed, PlansAreNumbered, InstanceLine, instance_from, instance_in, instance_disk, IsSalted, PlansAreSalted, InstanceIsAlone, Booted, LineBoots, OnlyReads, RecordsStay, ReadersWriteNothing, IsForApk, IsForImage, IsForLine, IsRead, ReadersOnlyRead}
 
 served_push : (lines : List PlanLine) (l : PlanLine) → AreServed lines → IsServed l → AreServed (lines ++ l ∷ [])
 served_push [] l s one = (one, tt)
@@ -127,6 +127,55 @@ salted_from n salt keyed there (line.WriteDir name file ∷ lines) (m ∷ number
 
 pub plan_salted : PlansAreSalted
 plan_salted text k p = salted_from 0 k.salt (has_keys k) (has_instance k) k.lines k.numbers (long 2 nothing k p.items.items tt p.items.each p.items.says) (plan_numbered text k p) p.complete (second_true (is_some k.secret) (is_some k.salt))
+
+-- ---- where a line's measure is in a record, there are an instance line and a secret
+
+both_true : (a b : Bool) → (a && b) ≡ true → (a ≡ true) × (b ≡ true)
+both_true true b e = (refl, e)
+both_true false b e = absurd cc
+
+kept_there : (a b : Bool) → (a && not b) ≡ false → a ≡ true → b ≡ true
+kept_there true true e f = refl
+kept_there true false e f = absurd cc
+kept_there false b e f = absurd cc
+
+lacks_not : (keyed there : Bool) (lines : List PlanLine) (numbers : List ℕ) (i : ℕ) (l : PlanLine) → length numbers ≡ length lines → first_lacking keyed there lines numbers ≡ None → i < length lines
+    → l ≡ get_or lines i l → lacks keyed there l ≡ false
+lacks_not keyed there [] numbers i l even e lt is = absurd (omega (arith, lt))
+lacks_not keyed there (x ∷ lines) [] i l even e lt is = absurd (omega (arith, even))
+lacks_not keyed there (x ∷ lines) (n ∷ numbers) zero l even e lt is = ap (lacks keyed there) is ∙ (rest_none (lacks keyed there x) n (first_lacking keyed there lines numbers) e).0
+lacks_not keyed there (x ∷ lines) (n ∷ numbers) (suc i) l even e lt is =
+    lacks_not keyed there lines numbers i l (omega (arith, even)) (rest_none (lacks keyed there x) n (first_lacking keyed there lines numbers) e).1 (omega (arith, lt)) is
+
+-- a line whose measure is in a record needs the instance line
+recorded_there : (keyed there : Bool) (l : PlanLine) → is_recorded l ≡ true → lacks keyed there l ≡ false → there ≡ true
+recorded_there keyed there (line.Apk disk apk idsig how) r e = kept_there (is_kept how) there e r
+recorded_there keyed there (line.Instance disk part) r e = absurd cc
+recorded_there keyed there (line.Blob file m) r e = absurd cc
+recorded_there keyed there (line.File name file digest) r e = absurd cc
+recorded_there keyed there (line.Write name file) r e = absurd cc
+recorded_there keyed there (line.WriteDir name file) r e = absurd cc
+
+-- and that needs the keys
+instance_there : (n : ℕ) (keyed there : Bool) (lines : List PlanLine) (numbers : List ℕ) → length numbers ≡ length lines → first_lacking keyed there lines numbers ≡ None → list_any is_instance lines ≡ true
+    → (keyed ≡ true) × ((i : InstanceLine) × (instance_from n lines ≡ Some i))
+unfolding instance_from
+instance_there n keyed there [] numbers even e any = absurd cc
+instance_there n keyed there (l ∷ lines) [] even e any = absurd (omega (arith, even))
+instance_there n keyed there (line.Instance disk part ∷ lines) (m ∷ numbers) even e any = (not_false keyed (rest_none (not keyed) m (first_lacking keyed there lines numbers) e).0, (_, refl))
+instance_there n keyed there (line.Blob file measure ∷ lines) (m ∷ numbers) even e any = instance_there (n + 1) keyed there lines numbers (omega (arith, even)) e any
+instance_there n keyed there (line.Apk disk apk idsig how ∷ lines) (m ∷ numbers) even e any = instance_there (n + 1) keyed there lines numbers (omega (arith, even)) (rest_none (is_kept how && not there) m (first_lacking keyed there lines numbers) e).1 any
+instance_there n keyed there (line.File name file digest ∷ lines) (m ∷ numbers) even e any = instance_there (n + 1) keyed there lines numbers (omega (arith, even)) e any
+instance_there n keyed there (line.Write name file ∷ lines) (m ∷ numbers) even e any = instance_there (n + 1) keyed there lines numbers (omega (arith, even)) e any
+instance_there n keyed there (line.WriteDir name file ∷ lines) (m ∷ numbers) even e any = instance_there (n + 1) keyed there lines numbers (omega (arith, even)) e any
+
+pub plan_recorded : (text : List ℕ) (k : Known) (i : ℕ) (l : PlanLine) → IsPlan text k → i < length k.lines → l ≡ get_or k.lines i l → is_recorded l ≡ true
+    → IsSome k.secret × ((n : InstanceLine) × (instance_in k.lines ≡ Some n))
+plan_recorded text k i l p lt is r =
+    let even = plan_numbered text k p in
+    let there = recorded_there (has_keys k) (has_instance k) l r (lacks_not (has_keys k) (has_instance k) k.lines k.numbers i l even p.complete lt is) in
+    let found = instance_there 0 (has_keys k) (has_instance k) k.lines k.numbers even p.complete there in
+    ((both_true (is_some k.secret) (is_some k.salt) found.0).0, found.1)
 
 -- ---- it is the only one
 

@@ -293,7 +293,7 @@ module _ (disk : ℕ) (parts : Span × Span) (uuid secret : List ℕ) (k : Kept)
 
   unmade : (s : Booted) (why : BootCause) (now : Recorded) (t : Trace) → MeasureFails k secret uuid why t ⊎ OpeningFails disk parts k secret uuid why t
       → FoundOutcome (with_recorded s old secret) disk parts uuid (with_recorded (record s { writings = s.writings ++ [] }) now secret) (Err why) t
-  unmade s why now t h = inr (record { image = k; image_is = refl; secret = secret; secret_is = refl; fails = inl (append-nil s.writings, h) })
+  unmade s why now t h = record { image = k; image_is = refl; secret = secret; secret_is = refl; fails = inl (append-nil s.writings, h) }
 
   pub ungot : (now : Recorded) (why : BootCause) (a b : Told) → Did (IsGetCall k uuid) 1 a b (MeasureOutcome k secret uuid (Err why))
       → DidWriting (IsForFound (Some k.disk) disk) 2 a b (MeasuredDone disk parts uuid secret old now (Err why))
@@ -386,7 +386,7 @@ module _ (disk : ℕ) (parts : Span × Span) (uuid secret : List ℕ) (k : Kept)
             cut = append_assoc x y r;
           },
         )
-        ended s (Err why) x y r failed None e le p dev h = inr (record {
+        ended s (Err why) x y r failed None e le p dev h = record {
           image = k;
           image_is = refl;
           secret = secret;
@@ -401,7 +401,7 @@ module _ (disk : ℕ) (parts : Span × Span) (uuid secret : List ℕ) (k : Kept)
             fails = keep_later a c z r failed le k uuid entropy dev.device.measure why h;
             written = refl;
           });
-        })
+        }
 
         -- what came before the write
         record Before (t : Trace) : Type 0 where

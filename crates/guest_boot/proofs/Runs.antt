@@ -1,6 +1,6 @@
 -- One line after another.
 use Rattle.std.proofs.Common.{◌≡◌, ℕ, zero, suc, ◌+◌, ◌<◌, ◌≤◌, ◌∙◌, List, [], ◌∷◌, ◌++◌, length, take, drop, get_or, Option, Some, None, Ok, Err, refl, ap, sym, subst, inl, inr, arith, append_assoc, append-nil, add-one}
-use Rattle.std.specs.Prelude.{slice_get, ◌⊎◌}
+use Rattle.std.specs.Prelude.{slice_get, IsSome, ◌⊎◌}
 use Rattle.std.proofs.lemmas.Option.{slice_get_read}
 use Rattle.std.proofs.lemmas.List.{length-take}
 use Rattle.std.proofs.Math.Seq.{take-suc}
@@ -121,6 +121,14 @@ instance_on (Some i) (Some salt) own tables image b = ap disk_of b.1 ∙ ap (λ 
 pub image_on : (i : Option InstanceLine) (means : Means) (lines : List PlanLine) (own : Exchanges) (new : Booted) → BootsFrom i means lines own new → disk_of new.image ≡ instance_disk i
 image_on i means lines own new b = boots_disk _ new lines b.rest b.others ∙ instance_on i means.salt b.first b.tables b.image b.before
 
+on_disk : (image : Option Kept) (disk : ℕ) → disk_of image ≡ Some disk → IsSome image
+on_disk None disk e = absurd cc
+on_disk (Some k) disk e = refl
+
+-- and it is there, where that is
+pub image_there : (i : Option InstanceLine) (means : Means) (lines : List PlanLine) (own : Exchanges) (new : Booted) (n : InstanceLine) → i ≡ Some n → BootsFrom i means lines own new → IsSome new.image
+image_there i means lines own new n is b = on_disk new.image n.disk (image_on i means lines own new b ∙ ap instance_disk is)
+
 -- ---- a line that failed, seen from before
 
 module _ (a b c : Told) (y : Exchanges) (failed : ℕ) (le : a.faults ≤ b.faults) where
@@ -195,14 +203,13 @@ module _ (a b c : Told) (y : Exchanges) (failed : ℕ) (le : a.faults ≤ b.faul
 
   pub found_later : (s : Booted) (disk : ℕ) (parts : Span × Span) (uuid : List ℕ) (why : BootCause) (after : List Writing) → FoundFails s disk parts uuid why after (trace_of y failed b c)
       → FoundFails s disk parts uuid why after (trace_of y failed a c)
-  found_later s disk parts uuid why after (inl (none, is, same, quiet)) = inl (none, is, same, record { own = quiet.own; failed = quiet.failed })
-  found_later s disk parts uuid why after (inr h) = inr (record {
+  found_later s disk parts uuid why after h = record {
     image = h.image;
     image_is = h.image_is;
     secret = h.secret;
     secret_is = h.secret_is;
     fails = record_later h.image h.secret h.fails;
-  }) where
+  } where
     record_later : (image : Kept) (secret : List ℕ)
         → ((after ≡ s.writings) × (MeasureFails image secret uuid why (trace_of y failed b c) ⊎ OpeningFails disk parts image secret uuid why (trace_of y failed b c))) ⊎ KeepingFails s disk parts image secret uuid why after (trace_of y failed b c)
         → ((after ≡ s.writings) × (MeasureFails image secret uuid why (trace_of y failed a c) ⊎ OpeningFails disk parts image secret uuid why (trace_of y failed a c))) ⊎ KeepingFails s disk parts image secret uuid why after (trace_of y failed a c)

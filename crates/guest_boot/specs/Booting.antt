@@ -1,5 +1,5 @@
 -- Boot: what the lines of a plan make, one after another, of what was heard for each.
-use Rattle.std.specs.Prelude.{◌≡◌, ◌⊎◌, ℕ, ◌+◌, ◌*◌, ◌≤◌, min, List, [], ◌∷◌, ◌++◌, length, slice_get, Option, Some, None, Result, Ok, Err}
+use Rattle.std.specs.Prelude.{Bool, false, ◌≡◌, ◌⊎◌, ℕ, ◌+◌, ◌*◌, ◌≤◌, min, List, [], ◌∷◌, ◌++◌, length, slice_get, Option, Some, None, Result, Ok, Err}
 use Rattle.std.specs.List.{AllByRecursion}
 use Rattle.mg_base.specs.declared.values.Span.{Span}
 use Rattle.mg_base.specs.declared.values.Digest.{Digest}
@@ -22,14 +22,13 @@ use Rattle.ro_file.specs.Files.{MeasuredFile}
 use Rattle.ro_file.specs.Opening as file_opening
 use Rattle.instance_image.specs.declared.faults.ImageFault.{ImageFault}
 use Rattle.instance_image.specs.declared.faults.ImageFault.TheVariants as images
-use Rattle.instance_image.specs.declared.faults.GetFault.TheVariants as gets
 use Rattle.instance_image.specs.Records.{Kept}
 use Rattle.instance_image.specs.Opening as image_opening
 use Rattle.guest_plan.specs.declared.plan.How.{How}
 use Rattle.guest_plan.specs.declared.plan.How.TheVariants as measures
 use Rattle.guest_plan.specs.declared.plan.PlanLine.{PlanLine}
 use Rattle.guest_plan.specs.declared.plan.PlanLine.TheVariants as line
-use Rattle.guest_plan.specs.Plans.{Known}
+use Rattle.guest_plan.specs.Plans.{Known, is_kept}
 use Rattle.guest_plan.specs.Spelling.{IsServed, IsPlan}
 use Rattle.guest_boot.specs.declared.faults.BootCause.{BootCause}
 use Rattle.guest_boot.specs.declared.faults.BootCause.TheVariants.{Gpt, NoPart, Apk, File, Image, Get, Put, NoEntropy, MeasureText, Failed, Short, Memory}
@@ -92,6 +91,15 @@ IsSalted (Some i) (Some salt) = length salt ≡ 64
 -- Law: so it is in a plan in the grammar.
 abbrev pub PlansAreSalted : Type 0
 PlansAreSalted = (text : List ℕ) (plan : Known) → IsPlan text plan → IsSalted (instance_in plan.lines) plan.salt
+
+-- the measure of its device is in a record
+abbrev pub is_recorded : PlanLine → Bool
+is_recorded (line.Instance disk part) = false
+is_recorded (line.Blob file m) = false
+is_recorded (line.Apk disk apk idsig how) = is_kept how
+is_recorded (line.File name file digest) = false
+is_recorded (line.Write name file) = false
+is_recorded (line.WriteDir name file) = false
 
 -- ---- the calls of a line
 
@@ -347,11 +355,11 @@ pub record RecordsStay (s new : Booted) : Type 0 where
 abbrev pub ReadersWriteNothing : Type 0
 ReadersWriteNothing = (s : Booted) (lines : List PlanLine) (own : Exchanges) (new : Booted) → AllOnlyRead lines → Boots s lines own new → RecordsStay s new
 
--- it asks for bytes or a number, and changes nothing at the host
+-- it asks for bytes or a number, and for no change at the host
 abbrev pub IsRead : Call → Type 0
 IsRead call = kind_of call ≡ kind_done → ⊥
 
--- Law: nor does a call for them change anything at the host.
+-- Law: each call for them is such a one.
 abbrev pub ReadersOnlyRead : Type 0
 ReadersOnlyRead = (lines : List PlanLine) (call : Call) → AllOnlyRead lines → IsForLines lines call → IsRead call
 
@@ -435,10 +443,6 @@ DeviceFails o MeasureText t = ⊥
 DeviceFails o (Failed faults) t = ⊥
 DeviceFails o (Short asked got) t = ⊥
 
--- why it failed behind the two parts, in this order: there is no image of records, or no secret of them
-abbrev pub HasNoRecords : Booted → Type 0
-HasNoRecords s = (s.image ≡ None) ⊎ (s.secret ≡ None)
-
 -- the measure was got, or the record is empty; and the device was not opened
 pub record OpeningFails (disk : ℕ) (parts : Span × Span) (image : Kept) (secret uuid : List ℕ) (why : BootCause) (t : Trace) : Type 0 where
   pub got : Exchanges
@@ -460,18 +464,14 @@ pub record KeepingFails (s : Booted) (disk : ℕ) (parts : Span × Span) (image 
   pub fails : KeepFails image uuid s.entropy boots.device.measure why (later_of t rest)
   pub written : after ≡ s.writings ++ measure_writings image secret uuid s.entropy boots.device.measure
 
--- the measure was not got, or one of these
-pub record RecordFails (s : Booted) (disk : ℕ) (parts : Span × Span) (uuid : List ℕ) (why : BootCause) (after : List Writing) (t : Trace) : Type 0 where
+-- why it failed behind the two parts: the measure was not got, or one of these
+pub record FoundFails (s : Booted) (disk : ℕ) (parts : Span × Span) (uuid : List ℕ) (why : BootCause) (after : List Writing) (t : Trace) : Type 0 where
   pub image : Kept
   pub image_is : s.image ≡ Some image
   pub secret : List ℕ
   pub secret_is : s.secret ≡ Some secret
   pub fails : ((after ≡ s.writings) × (MeasureFails image secret uuid why t ⊎ OpeningFails disk parts image secret uuid why t))
       ⊎ KeepingFails s disk parts image secret uuid why after t
-
-abbrev pub FoundFails : Booted → ℕ → Span × Span → List ℕ → BootCause → List Writing → Trace → Type 0
-FoundFails s disk parts uuid why after t =
-    (HasNoRecords s × (why ≡ Get gets.NoRecord) × (after ≡ s.writings) × IsQuiet t) ⊎ RecordFails s disk parts uuid why after t
 
 -- the two parts were found by the first exchanges, and by the rest it failed so
 pub record BehindParts (s : Booted) (disk : ℕ) (apk idsig uuid : List ℕ) (why : BootCause) (after : List Writing) (t : Trace) : Type 0 where

@@ -14,8 +14,8 @@ pub fn instances_are_alone()
     ensures salted { PlansAreSalted }
 {}
 
-/// No line changes the image that was opened for the instance line, takes entropy or writes, and no call for one changes anything at
-/// the host, but for those whose measure is in a record and those of writable files. Its contract is the law; it does nothing.
+/// Lines for which boot only reads, all but those whose measure is in a record and those of writable files: they leave the image, the
+/// entropy and the writes as they are, and each call for them asks for bytes or a number. Its contract is the law; it does nothing.
 pub fn readers_change_nothing()
     ensures stays { ReadersWriteNothing }
     ensures reads { ReadersOnlyRead }

@@ -1,5 +1,5 @@
 // A plan: its instance image, and then its lines in their order.
-ghost use Rattle.std.specs.Prelude.{◌≡◌, ◌≤◌, ℕ, List, IfOk, IfSome, MatchOption, None, Some, option_copied};
+ghost use Rattle.std.specs.Prelude.{◌≡◌, ◌≤◌, ℕ, List, IfOk, IfSome, IsSome, MatchOption, None, Some, option_copied, true};
 ghost use Rattle.host_traits.specs.Did.{Did};
 ghost use Rattle.ro_file.specs.Opening.{IsDescriptorCall};
 ghost use Rattle.guest_plan.specs.Plans.{known};
@@ -7,7 +7,7 @@ ghost use Rattle.guest_plan.specs.Spelling.{IsPlan, IsServed, IsMeasuredBy, IsDe
 ghost use Rattle.guest_boot.specs.Recording.{DidWriting};
 ghost use Rattle.guest_boot.specs.Finding.{AreSpans};
 ghost use Rattle.apk_verity.specs.Opening.{opening, IsIdsigCall};
-ghost use Rattle.guest_boot.specs.Booting.{AreItems, apk_cause, file_cause, measure_in, plain_of, means_of, disk_of, IsResize, IsForLine, most_in_place, IsForLines, most_of, IsForApk, IsForFound, IsForRecorded, BlobOutcome, ApkOutcome, FileOutcome, WriteOutcome, DeviceOutcome, MeasuredDone, FoundDone, RecordedDone, LineDone, BootOutcome};
+ghost use Rattle.guest_boot.specs.Booting.{AreItems, is_recorded, apk_cause, file_cause, measure_in, plain_of, means_of, disk_of, IsResize, IsForLine, most_in_place, IsForLines, most_of, IsForApk, IsForFound, IsForRecorded, BlobOutcome, ApkOutcome, FileOutcome, WriteOutcome, DeviceOutcome, MeasuredDone, FoundDone, RecordedDone, LineDone, BootOutcome};
 
 use crate::entropy::Entropy;
 use crate::faults::{BootCause, BootFault};
@@ -17,7 +17,7 @@ use crate::tables::{DiskTable, parts_on};
 use apk_verity::{ApkFault, open_apk};
 use guest_plan::{How, Plan, PlanLine};
 use host_traits::{Host, HostError, Raw};
-use instance_image::{GetFault, Image};
+use instance_image::Image;
 use mg_base::{Digest, Guid, Span};
 use ro_file::{RoFault, RoFile, open_file};
 use sha_tree::Measure;
@@ -233,7 +233,7 @@ fn boot_measured<H: Host>(
     }
 }
 
-// The same with the records of a boot, where there are such.
+// The same with the records of a boot.
 fn boot_found<H: Host>(
     alloc: Global,
     host: &mut H,
@@ -245,16 +245,18 @@ fn boot_found<H: Host>(
     raw: &mut Raw,
 ) -> Result<(), BootCause>
     requires spans { AreSpans parts }
+    requires secret { IsSome secret.now }
+    requires image { IsSome boot.old.image }
     requires items { AreItems boot.old.items.items }
     ensures did { DidWriting (IsForFound (disk_of boot.old.image) disk) 2 (H.told host.old) (H.told host.new)
         (FoundDone secret.now boot.old disk parts uuid.now.0 boot.new result) }
     ensures items { AreItems boot.new.items.items }
 {
     let Some(secret) = secret else {
-        return Err(BootCause::Get(GetFault::NoRecord));
+        unreachable!();
     };
     let Some(image) = &mut boot.image else {
-        return Err(BootCause::Get(GetFault::NoRecord));
+        unreachable!();
     };
     boot_measured(
         alloc,
@@ -282,6 +284,8 @@ fn boot_recorded<H: Host>(
     boot: &mut Boot,
     raw: &mut Raw,
 ) -> Result<(), BootCause>
+    requires secret { IsSome secret.now }
+    requires image { IsSome boot.old.image }
     requires items { AreItems boot.old.items.items }
     ensures did { DidWriting (IsForRecorded (disk_of boot.old.image) disk) 5 (H.told host.old) (H.told host.new)
         (RecordedDone secret.now boot.old disk apk.now idsig.now uuid.now.0 boot.new result) }
@@ -304,6 +308,7 @@ fn boot_line<H: Host>(
     raw: &mut Raw,
 ) -> Result<(), BootCause>
     requires served { IsServed line.now }
+    requires records { is_recorded line.now ≡ true → IsSome secret.now × IsSome boot.old.image }
     requires items { AreItems boot.old.items.items }
     ensures did { DidWriting (IsForLine (disk_of boot.old.image) line.now) (most_in_place line.now) (H.told host.old)
         (H.told host.new) (LineDone secret.now boot.old line.now boot.new result) }

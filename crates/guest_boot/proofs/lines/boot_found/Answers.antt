@@ -1,12 +1,6 @@
-use Rattle.std.proofs.Common.{Some, refl, inl, inr}
-use Rattle.guest_boot.proofs.Outcomes.{no_records, with_records}
+use Rattle.std.proofs.Common.{Some, refl}
+use Rattle.guest_boot.proofs.Outcomes.{with_records}
 use Rattle.guest_boot.proofs.lines.boot_found.Goals as goal
-
-pub returns-in_default-clause-did : goal.returns-in_default-clause-did
-returns-in_default-clause-did g c = no_records c.args.disk c.args.parts c.args.uuid.now.0 c.args.secret.now c.args.boot.now c.args.boot.now _ (inr c.in_default.is)
-
-pub returns-in_default-image-clause-did : goal.returns-in_default-image-clause-did
-returns-in_default-image-clause-did g c = no_records c.args.disk c.args.parts c.args.uuid.now.0 c.args.secret.now c.args.boot.now c.args.boot.now _ (inl c.in_default-image.is)
 
 pub returns-clause-did : goal.returns-clause-did
 returns-clause-did g c =

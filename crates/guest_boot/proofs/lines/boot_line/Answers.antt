@@ -4,7 +4,7 @@ use Rattle.guest_plan.specs.declared.plan.How.TheVariants as measures
 use Rattle.guest_plan.specs.declared.plan.PlanLine.TheVariants as line
 use Rattle.std.specs.Global.{Vec}
 use Rattle.verity_path.specs.declared.device.Device.{Device}
-use Rattle.guest_boot.specs.Booting.{AreItems}
+use Rattle.guest_boot.specs.Booting.{is_recorded, AreItems}
 use Rattle.guest_boot.proofs.Outcomes.{did_line, did_instance, did_blob, did_apk, did_recorded, did_file, did_write, did_writedir}
 use Rattle.guest_boot.proofs.lines.boot_line.Goals as goal
 
@@ -21,6 +21,14 @@ returns-in-Kept-clause-did g c =
     let is : c.args.line.now ≡ l = c.in-Apk.is ∙ ap (λ (how : How). line.Apk c.in-Apk.disk c.in-Apk.apk c.in-Apk.idsig how) c.in-Kept.is in
     did_line c.args.secret.now c.args.boot.now c.boot_recorded.new.boot _ _ c.boot_recorded.result c.args.line.now l is
     (did_recorded c.args.secret.now c.args.boot.now c.boot_recorded.new.boot _ _ c.in-Apk.disk c.in-Apk.apk c.in-Apk.idsig c.in-Kept.uuid c.boot_recorded.result c.boot_recorded.ensures.did)
+
+pub boot_recorded-requires-clause-secret : goal.boot_recorded-requires-clause-secret
+boot_recorded-requires-clause-secret g c =
+    (c.requires.records (ap is_recorded (c.in-Apk.is ∙ ap (λ (how : How). line.Apk c.in-Apk.disk c.in-Apk.apk c.in-Apk.idsig how) c.in-Kept.is))).0
+
+pub boot_recorded-requires-clause-image : goal.boot_recorded-requires-clause-image
+boot_recorded-requires-clause-image g c =
+    (c.requires.records (ap is_recorded (c.in-Apk.is ∙ ap (λ (how : How). line.Apk c.in-Apk.disk c.in-Apk.apk c.in-Apk.idsig how) c.in-Kept.is))).1
 
 pub returns-in_default : goal.returns-in_default
 returns-in_default g c = record {

@@ -1,11 +1,11 @@
-use Rattle.std.proofs.Common.{◌≡◌, ◌<◌, ◌≤◌, ◌∙◌, List, [], length, refl, ap, sym, subst, arith}
+use Rattle.std.proofs.Common.{◌≡◌, ◌<◌, ◌≤◌, ◌∙◌, List, [], length, take, refl, ap, sym, subst, arith}
 use Rattle.verity_path.specs.declared.device.Device.{Device}
 use Rattle.ro_file.specs.Files.{MeasuredFile}
 use Rattle.std.proofs.lemmas.Option.{slice_get_read}
 use Rattle.guest_plan.specs.Plans.{known}
-use Rattle.guest_boot.specs.Booting.{Booted, AreItems, means_of}
-use Rattle.guest_boot.proofs.Plans.{plan_served, plan_numbered, served_at}
-use Rattle.guest_boot.proofs.Runs.{not_begun, begins, goes_on, stops, ends}
+use Rattle.guest_boot.specs.Booting.{Booted, AreItems, instance_in, means_of}
+use Rattle.guest_boot.proofs.Plans.{plan_served, plan_numbered, plan_recorded, served_at}
+use Rattle.guest_boot.proofs.Runs.{image_there, not_begun, begins, goes_on, stops, ends}
 use Rattle.guest_boot.proofs.lines.open_lines.Goals as goal
 
 pub returns-in-Err-clause-booted : goal.returns-in-Err-clause-booted
@@ -34,6 +34,12 @@ pub boot_line-requires-clause-served : goal.boot_line-requires-clause-served
 boot_line-requires-clause-served g c =
     let inside : c.loop-index.index < length c.args.plan.now.lines.items = omega (arith, c.args.plan.now.lines.ok, c.loop-index-test.true) in
     served_at c.args.plan.now.lines.items c.loop-index.index c.index.result.now (plan_served c.requires.plan.0 (known c.args.plan.now) c.requires.plan.1) inside c.index.ensures
+
+pub boot_line-requires-clause-records : goal.boot_line-requires-clause-records
+boot_line-requires-clause-records g c = λ e.
+    let inside : c.loop-index.index < length c.args.plan.now.lines.items = omega (arith, c.args.plan.now.lines.ok, c.loop-index-test.true) in
+    let p = plan_recorded c.requires.plan.0 (known c.args.plan.now) c.loop-index.index c.index.result.now c.requires.plan.1 inside c.index.ensures e in
+    (p.0, image_there (instance_in c.args.plan.now.lines.items) (means_of (known c.args.plan.now) c.args.entropy) (take c.loop-index.index c.args.plan.now.lines.items) _ _ p.1.0 p.1.1 c.loop-index.invariant.booted.did.outcome.1)
 
 pub index-line-requires : goal.index-line-requires
 index-line-requires g c =
