@@ -8,7 +8,7 @@ use Rattle.host_traits.specs.declared.calls.Call.TheVariants.{FileRead, TreeRead
 use Rattle.host_traits.specs.declared.calls.Said.{Said}
 use Rattle.host_traits.specs.declared.calls.Said.TheVariants.{Bytes, Done}
 use Rattle.host_traits.specs.Held.{Held, File, serve, found, with_file, tree_with, over, resized}
-use Rattle.host_traits.specs.Told.{Told, Talked, Made, Serves, ServesAll, HeldAfter}
+use Rattle.host_traits.specs.Told.{Made, Serves, ServesAll, HeldAfter}
 use Rattle.host_traits.specs.Did.{Each}
 use Rattle.rw_file.specs.Contents.{IsAtHost}
 use Rattle.rw_file.specs.Calls.{IsForFileRead, IsForSync}
