@@ -1,7 +1,7 @@
 -- No message changes the read-only files, and work that is let through is of a file that is there.
 use Rattle.std.proofs.Common.{◌≡◌, ◌+◌, if◌then◌else◌, ℕ, Bool, true, false, not, List, [], ◌∷◌, length, Option, Some, None, Result, Ok, Err, refl, subst}
 use Rattle.mg_base.specs.declared.errno.Errno.{Errno}
-use Rattle.mg_base.specs.declared.errno.Errno.TheVariants.{Eacces, Efbig, Eisdir, Enospc, Enosys, Eproto}
+use Rattle.mg_base.specs.declared.errno.Errno.TheVariants.{Eacces, Efbig, Enospc, Enosys, Eproto}
 use Rattle.ro_file.specs.Files.{MeasuredFile}
 use Rattle.authfs_dirs.specs.declared.kind.Kind.{Kind}
 use Rattle.authfs_dirs.specs.declared.kind.Kind.TheVariants.{Dir, ReadOnly, Writable}
@@ -11,7 +11,7 @@ use Rattle.fuse_codec.specs.Message.{Asked, init, lookup, forget, batch_forget, 
 use Rattle.fuse_codec.specs.Reply as reply
 use Rattle.fuse_codec.specs.Reply.{Answer}
 use Rattle.fuse_server.specs.State.{State, WritableFile, Behind, measured, written, file_at, writable_at, as_file, attr_of, live, live_file, live_dir, held}
-use Rattle.fuse_server.specs.Aims.{Aim, says, makes, reads, loads, writes, cuts, syncs, is_old, init_aim, lookup_aim, getattr_aim, setattr_aim, cut_of, size_aim, set_attr, asks_size, may_reach, may_be_opened, read_of, write_at, write_of, sync_of, open_aim, opendir_aim, read_aim, write_aim, handled_aim, fsync_aim, releasedir_aim, readdir_aim, add_aim, remove_aim, statfs_aim, ready_aim, message_aim, aim_of}
+use Rattle.fuse_server.specs.Aims.{Aim, says, makes, reads, loads, writes, cuts, syncs, is_old, init_aim, lookup_aim, getattr_aim, setattr_aim, cut_of, size_aim, asks_size, may_reach, may_be_opened, read_of, write_at, write_of, sync_of, open_aim, opendir_aim, read_aim, write_aim, handled_aim, fsync_aim, releasedir_aim, readdir_aim, add_aim, remove_aim, statfs_aim, ready_aim, message_aim, aim_of}
 use Rattle.fuse_server.specs.Effects.{Change, nothing, rewrites, initialises, counts, forgets, forgets_all, opens, closes, destroys, change_of, Changed, UnlessRefused, counted}
 use Rattle.fuse_server.specs.Serving.{FilesStay}
 
