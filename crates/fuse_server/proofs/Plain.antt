@@ -12,13 +12,13 @@ use Rattle.fuse_codec.specs.Said.{bad_of}
 use Rattle.fuse_codec.specs.declared.request.BadMessage.{BadMessage}
 use Rattle.fuse_codec.specs.declared.request.BadMessage.TheVariants as bads
 use Rattle.fuse_server.specs.Answers.{Answered, bad_answer}
-use Rattle.fuse_server.specs.State.{State, WritableFile, Writables, writable_at}
+use Rattle.fuse_server.specs.State.{State, Writables}
 use Rattle.fuse_server.specs.Aims.{Aim, says, makes, reads, loads, writes, cuts, syncs, aim_of}
 use Rattle.fuse_server.specs.FileRows.{around}
 use Rattle.fuse_server.specs.declared.deed.Deed.{Deed}
 use Rattle.fuse_server.specs.declared.deed.Deed.TheVariants as deed
 use Rattle.fuse_server.specs.declared.deed.Reading.{Reading}
-use Rattle.fuse_server.specs.Deeds.{ByFile, IsDeed, NoCall, Refuses, answer_to}
+use Rattle.fuse_server.specs.Deeds.{IsDeed, NoCall, Refuses, answer_to}
 use Rattle.verity_path.specs.declared.device.Cause.{Cause}
 use Rattle.verity_path.specs.Range.{most_answers}
 use Rattle.fuse_server.specs.Rows.{IsPlain, IsFileRead, ReadRow, FuseRow, answer_by}
@@ -81,10 +81,6 @@ pub read_did : (files : Writables) (aim : Result Aim Errno) (d : Result Deed Err
 read_did files aim d r a b answer c e w did = aimed aim (rw e at w) where
   aimed : (aim : Result Aim Errno) → aim ≡ Ok (reads r.file r.offset r.size) → Answered aim files files a b answer c
   aimed aim e = rw e (record { own = did.own; talked = did.talked; calls = did.calls; few = did.few; stops = did.stops; outcome = (refl, did.outcome) })
-
-pub by_file : (files news : Writables) (number : ℕ) (aim : Result Aim Errno) (made : WritableFile → Result Aim Errno) (a b : Told) (answer : Answer) (c : Option Cause) → ByFile files number aim made
-    → ((f : WritableFile) → writable_at files number ≡ Some f → Answered (made f) files news a b answer c) → Answered aim files news a b answer c
-by_file files news number aim made a b answer c w so = rw w.2 (so w.0 w.1)
 
 bad_row : (s : State) (bad : BadMessage) (x : Told) (bytes : List ℕ) → Answered (aim_of s (Err (bad_of bad))) s.writables s.writables x x (answer_by (bad_answer bad).reply bytes) (bad_answer bad).cause
 bad_row s bads.Quiet x bytes = plain_none (aim_of s (Err (bad_of bads.Quiet))) s.writables x reply.silent None (refl, plain_row reply.silent x)

@@ -1,9 +1,7 @@
 -- The rows of requests on a writable file: when each answer comes, its cause, and what becomes of the file.
-use Rattle.std.specs.Prelude.{◌≡◌, ℕ, List, length, Option, Some, None, Result, Ok, Err}
-use Rattle.mg_base.specs.declared.values.Digest.{Digest}
+use Rattle.std.specs.Prelude.{◌≡◌, ℕ, List, Option, Some, None, Result, Ok, Err}
 use Rattle.mg_base.specs.declared.errno.Errno.{Errno}
 use Rattle.mg_base.specs.declared.errno.Errno.TheVariants.{Efbig, Eio, Enomem}
-use Rattle.host_traits.specs.declared.calls.Call.{Call}
 use Rattle.host_traits.specs.Held.{Held}
 use Rattle.host_traits.specs.Told.{Told}
 use Rattle.host_traits.specs.Did.{Trace}

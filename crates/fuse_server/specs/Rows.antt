@@ -3,7 +3,6 @@ use Rattle.std.specs.Prelude.{◌≡◌, ℕ, ◌+◌, ◌⊎◌, List, [], leng
 use Rattle.mg_base.specs.declared.errno.Errno.{Errno}
 use Rattle.mg_base.specs.declared.errno.Errno.TheVariants.{Eio, Enomem}
 use Rattle.host_traits.specs.declared.calls.Call.{Call}
-use Rattle.host_traits.specs.Held.{Held}
 use Rattle.host_traits.specs.Told.{Told}
 use Rattle.host_traits.specs.Did.{Trace, IsScarce, reads as hands_nothing}
 use Rattle.verity_path.specs.Range.{IsCut, IsReadBlame, IsForRead, most_answers, read_calls, end_of, touched}
@@ -19,7 +18,6 @@ use Rattle.rw_file.specs.Calls.{IsForFileRead, IsForFileWrite, IsForCut, Hands, 
 use Rattle.fuse_codec.specs.declared.reply.FuseReply.{FuseReply}
 use Rattle.fuse_codec.specs.Reply.{Answer, refused, silent, bytes_out}
 use Rattle.fuse_codec.specs.Sent.{answer_of}
-use Rattle.fuse_server.specs.State.{Writables}
 use Rattle.fuse_server.specs.Aims.{Aim, says, makes, reads, loads, writes, cuts, syncs}
 use Rattle.fuse_server.specs.FileRows.{Around, IsLocal, LoadRow, WriteRow, CutRow, SyncRow}
 

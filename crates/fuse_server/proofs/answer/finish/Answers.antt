@@ -1,7 +1,6 @@
 use Rattle.std.proofs.Common.{rules, Ok, Err}
-use Rattle.fuse_server.specs.Aims.{loads, writes, cuts, syncs}
 use Rattle.fuse_server.specs.declared.deed.Deed.TheVariants as deed
-use Rattle.fuse_server.proofs.Plain.{plain_at, read_did, by_file}
+use Rattle.fuse_server.proofs.Plain.{plain_at, read_did}
 use Rattle.fuse_server.proofs.answer.finish.Goals as goal
 
 pub returns-in-Ok-Silent-clause-did : goal.returns-in-Ok-Silent-clause-did
