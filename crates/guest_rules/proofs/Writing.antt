@@ -22,7 +22,7 @@ use Rattle.rw_file.specs.declared.faults.RwFault.{RwFault}
 use Rattle.rw_file.specs.declared.faults.RwFault.TheVariants as fault
 use Rattle.rw_file.specs.declared.faults.Written.{Written}
 use Rattle.rw_file.specs.Contents.{IsVersion, Only, IsFileHashed, IsAtHost, IsSame, version}
-use Rattle.rw_file.specs.Rows.{IsNow, IsNowOr, IsUncounted, IsStopped, IsUncut, ReadOutcome, WriteOutcome, WrittenSays, CutOutcome, SyncOutcome}
+use Rattle.rw_file.specs.Rows.{IsNow, IsNowOr, IsUncounted, IsStopped, ReadOutcome, WriteOutcome, WrittenSays, CutOutcome, SyncOutcome}
 use Rattle.fuse_codec.specs.Reply as reply
 use Rattle.fuse_codec.specs.Reply.{Answer, bytes_out, attributes, empty, refused}
 use Rattle.fuse_server.specs.State.{State as Fuse, WritableFile, Writables, writable_at, replaced, attr_of_size}
@@ -126,16 +126,13 @@ module _ (x y : Option Held) (t : Trace) (f new : WritableFile) (c : List ℕ) (
   cut_bytes size (Ok u) = resized c size
   cut_bytes size (Err e) = c
 
-  uncut_by : (size : ℕ) (why : WalkFault) → NoClash (IsFileHashed (Only c) t.own) → IsUncut IsLocal f.file f.size size (meaning_of f) (meaning_of new) x y t why → IsLeft x y f new c c
-  uncut_by size why clear o = by_now_or _ _ why c _ (o.content c is clear)
-
   pub cut_by : (size : ℕ) (result : Result (Unit {0}) RwFault) → NoClash (IsFileHashed (Only c) t.own)
       → CutOutcome IsLocal f.file f.size size (meaning_of f) (meaning_of new) x y result t → IsLeft x y f new c (cut_bytes size result)
   cut_by size (Ok u) clear o = by_now _ (o.content c is clear)
-  cut_by size (Err (fault.Mismatch m)) clear o = uncut_by size (walk.Mismatch m) clear o
-  cut_by size (Err (fault.Short asked got)) clear o = uncut_by size (walk.Short asked got) clear o
-  cut_by size (Err (fault.Failed faults)) clear o = uncut_by size (walk.Failed faults) clear o
-  cut_by size (Err fault.Memory) clear o = ⊎_elim (λ r. by_same r.none r.failed r.kept) (uncut_by size walk.Memory clear) o
+  cut_by size (Err (fault.Mismatch m)) clear o = by_now_or _ _ (walk.Mismatch m) c _ (o.content c is clear)
+  cut_by size (Err (fault.Short asked got)) clear o = by_now_or _ _ (walk.Short asked got) c _ (o.content c is clear)
+  cut_by size (Err (fault.Failed faults)) clear o = by_now_or _ _ (walk.Failed faults) c _ (o.content c is clear)
+  cut_by size (Err fault.Memory) clear o = ⊎_elim (λ r. by_same r.none r.failed r.kept) (λ k. by_now_or _ _ walk.Memory c _ (k.content c is clear)) o
   cut_by size (Err (fault.TooLarge end)) clear o = by_same o.1.none o.1.failed o.1.kept
 
   pub sync_by : (IsTree : Call → Type 0) (result : Result (Unit {0}) RwFault) → NoClash (IsFileHashed (Only c) t.own)
