@@ -97,7 +97,7 @@ def ends():
                                      ("no tape", "replay plan none entropy", 3, "end 3 file none\n"),
                                      ("no entropy", "replay plan tape none", 3, "end 3 file none\n")):
         yield case(name, "the words, and files that aren't there", files, ran(words, status, b"", log))
-    for name, text, status, log in (("writable", b"plan 1\nwrite w 3\n", 12, "end 12 unbuilt plan 2\n"),):
+    for name, text, status, log in (("writable", b"plan 1\nwritedir w 3\n", 12, "end 12 unbuilt plan 2\n"),):
         yield case(name, "a line that isn't served yet", dict(files, plan=text), ran("replay plan tape entropy", status, b"", log))
     for name, text, log in (("no magic", b"", "end 4 tape 0\n"), ("cut record", tape(b"\3\2"), "end 4 tape 13\n")):
         yield case(name, "a tape that isn't in its grammar", dict(files, tape=text), ran("replay plan tape entropy", 4, b"", log))
