@@ -18,7 +18,7 @@ use Rattle.fuse_server.specs.State.{State, WritableFile, Writables, writable_at,
 use Rattle.fuse_server.specs.Aims.{Aim, says, makes, reads, loads, writes, cuts, syncs}
 use Rattle.fuse_server.specs.FileRows.{Around}
 use Rattle.fuse_server.specs.Rows.{FuseRow}
-use Rattle.fuse_server.proofs.Keeping.{OfFiles, aim_of_file}
+use Rattle.fuse_server.proofs.Keeping.{OfFiles, all_of}
 use Rattle.fuse_server.specs.Effects.{Change, nothing, rewrites, initialises, counts, forgets, forgets_all, opens, closes, destroys, change_of, Changed, UnlessRefused, IsDestroyed, with_names, with_writables, counted, all_forgotten, with_handle, without_handle, initialised}
 use Rattle.fuse_server.specs.Serving.{IsServedKind, AreServed, AreNumbered, ServedStay, NumbersStay}
 
@@ -168,8 +168,8 @@ moves s (Ok (says x)) a answer c of w = inl w.0
 moves s (Ok (makes x)) a answer c of w = inl w.0
 moves s (Ok (reads f offset size)) a answer c of w = inl w.0
 moves s (Ok (loads n f offset size)) a answer c of w = inr (record { number = n; old = f; new = w.new; there = of; file_is = w.replaced.file_is; files = w.replaced.files })
-moves s (Ok (writes n f offset bytes)) a answer c of w = inr (record { number = n; old = f; new = w.new; there = of; file_is = w.replaced.file_is; files = w.replaced.files })
-moves s (Ok (cuts n f node size)) a answer c of w = inr (record { number = n; old = f; new = w.new; there = of; file_is = w.replaced.file_is; files = w.replaced.files })
+moves s (Ok (writes n f offset bytes)) a answer c of w = inr (record { number = n; old = f; new = w.new; there = of.0; file_is = w.replaced.file_is; files = w.replaced.files })
+moves s (Ok (cuts n f node size)) a answer c of w = inr (record { number = n; old = f; new = w.new; there = of.0; file_is = w.replaced.file_is; files = w.replaced.files })
 moves s (Ok (syncs n f)) a answer c of w = inr (record { number = n; old = f; new = w.new; there = of; file_is = w.replaced.file_is; files = w.replaced.files })
 
 some_by : (b d : Bool) (k n : ℕ) (v w : WritableFile) (q : ℕ) (es fs : Writables) → is_at (nat_cmp q) k ≡ d → (IsSome (writable_at es q) → IsSome (writable_at fs q)) → IsSome (writable_at ((k, v) ∷ es) q)
@@ -207,7 +207,7 @@ changed_stays s node (closes fh) a new step u w = unless s new _ a u (λ e v. st
 changed_stays s node destroys a new step u w = unless s new _ a u (destroyed_stays s new) w
 
 pub served_stay : ServedStay
-served_stay s (Ok m) a answer c new is w = changed_stays s m.node (change_of m.asked) answer new (λ e v. stays _ new e (rewritten s a new.writables is.old_is is.new_is (moves s _ a answer c (aim_of_file s (Ok m)) is.row) v)) is.next w
+served_stay s (Ok m) a answer c new is w = changed_stays s m.node (change_of m.asked) answer new (λ e v. stays _ new e (rewritten s a new.writables is.old_is is.new_is (moves s _ a answer c (all_of s (Ok m)) is.row) v)) is.next w
 served_stay s (Err bad) a answer c new is w = stays s new is.next w
 
 -- ---- the numbers of writable files
@@ -240,4 +240,4 @@ numbered_on s a files old new (inl same) w = subst AreNumbered (sym old ∙ sym 
 numbered_on s a files old new (inr p) w = subst AreNumbered (sym (sym new ∙ p.files ∙ ap (replaced p.number p.new) old)) (numbered_put p.number p.old p.new s.writables p.there p.file_is w)
 
 pub numbers_stay : NumbersStay
-numbers_stay s m a answer c new is w = numbered_on s a new.writables is.old_is is.new_is (moves s _ a answer c (aim_of_file s m) is.row) w
+numbers_stay s m a answer c new is w = numbered_on s a new.writables is.old_is is.new_is (moves s _ a answer c (all_of s m) is.row) w
