@@ -26,8 +26,8 @@ use std::alloc::Global;
 use std::marker::Model;
 use verity_path::{Buffers, Served};
 
-/// What answers messages: names and nodes, open handles, read-only and writable files, and whether INIT was answered. Contracts see its
-/// state.
+/// What answers messages: names and nodes, open handles, read-only and writable files, and whether INIT was answered.
+/// Contracts see its state.
 #[derive(Drop)]
 pub struct Server {
     parts: Parts,
@@ -126,15 +126,15 @@ impl Server {
         served: &mut Served,
     ) -> FuseAnswer
         requires { 40 ≤ length message.now }
-        // The calls that were made, and the answer with its cause.
+        // The calls that were made, the answer with its cause, and the writable files after it.
         ensures did { DidBy (IsForFuse (aim_of self.old (decoded message.now)))
             (most_for_fuse (aim_of self.old (decoded message.now)))
             (H.told host.old) (H.told host.new)
             (λ t. FuseRow (aim_of self.old (decoded message.now))
             (around self.old.writables self.new.writables (H.told host.old) (H.told host.new) t)
             (answer_by result.reply served.new) result.cause) }
-        // Over a host that holds the file, where no call failed or it is honest, a READ's bytes or
-        // want of memory.
+        // Over a host that holds a read-only file, where no call failed or it is honest, a READ's
+        // bytes or want of memory.
         ensures held { FuseIsRight (aim_of self.old (decoded message.now))
             (H.told host.old) (H.told host.new) (answer_by result.reply served.new) }
         // The state after it.
