@@ -152,8 +152,8 @@ module _ (s new : Fuse) (a b : Told) (payload : List ℕ) (reply : Option FuseRe
   by_aim (Ok (cuts n f node size)) row right = tt
   by_aim (Ok (syncs n f)) row right = tt
 
-  pub message_served : FuseIsRight (aim_of s (decoded payload)) a b (answer_by reply bytes)
+  pub message_served : Next s (decoded payload) (answer_by reply bytes) new → FuseIsRight (aim_of s (decoded payload)) a b (answer_by reply bytes)
       → MessageIsServed (aim_of s (decoded payload)) (number_of (decoded payload)) a b (sent_if (message_frame reply) bytes) c
-  message_served right =
+  message_served next right =
       subst (λ (z : Sent). MessageIsServed (aim_of s (decoded payload)) (number_of (decoded payload)) a b z c) (sym (message_sent_is (decoded payload) reply bytes number))
       (by_aim (aim_of s (decoded payload)) did.outcome right)

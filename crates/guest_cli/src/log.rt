@@ -11,9 +11,9 @@ use verity_path::Cause;
 
 // Adds the words of a tag.
 fn put_tag(line: &mut Line, found: &[u8; 16])
-    requires { length line.old ≤ 37 }
+    requires { length line.old ≤ 47 }
     ensures value { line.new ≡ line.old ++ (codes " tag " ++ encode_lower found.now) }
-    ensures len { length line.new ≤ 74 }
+    ensures len { length line.new ≤ 84 }
 {
     line.put(b" tag ");
     line.hex(found);
@@ -21,9 +21,9 @@ fn put_tag(line: &mut Line, found: &[u8; 16])
 
 // Adds the words of a cause.
 fn put_cause(line: &mut Line, cause: &Cause)
-    requires { length line.old ≤ 37 }
+    requires { length line.old ≤ 47 }
     ensures value { line.new ≡ line.old ++ cause_words cause.now }
-    ensures len { length line.new ≤ 233 }
+    ensures len { length line.new ≤ 243 }
 {
     match cause {
         Cause::Mismatch(mismatch) => {
@@ -59,7 +59,7 @@ fn put_cause(line: &mut Line, cause: &Cause)
 fn put_head(line: &mut Line, at: u64, reply: &Option<ReplyFrame>)
     requires { length line.old ≡ 0 }
     ensures value { (served : List ℕ) → line.new ≡ log_head at (sent_if reply.now served) }
-    ensures len { length line.new ≤ 37 }
+    ensures len { length line.new ≤ 47 }
 {
     match reply {
         Some(ReplyFrame::Fuse(FuseReply::Written { unique: _, count })) => {

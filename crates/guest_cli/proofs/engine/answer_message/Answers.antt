@@ -7,4 +7,4 @@ returns-clause-step g c = rw (c.message_frame.ensures, ← c.engine.view_is)
 
 pub returns-clause-served : goal.returns-clause-served
 returns-clause-served g c = rw (c.message_frame.ensures, ← c.engine.view_is)
-    (message_served _ _ _ _ c.args.message.now c.answer-answer.result.reply _ c.answer-answer.result.cause c.answer-answer.ensures.number c.answer-answer.ensures.did c.answer-answer.ensures.held)
+    (message_served _ _ _ _ c.args.message.now c.answer-answer.result.reply _ c.answer-answer.result.cause c.answer-answer.ensures.number c.answer-answer.ensures.did c.answer-answer.ensures.next c.answer-answer.ensures.held)
