@@ -12,8 +12,7 @@ use Rattle.host_traits.proofs.Doing.{in_both}
 use Rattle.guest_plan.specs.declared.plan.PlanLine.{PlanLine}
 use Rattle.guest_plan.specs.declared.plan.PlanLine.TheVariants as line
 use Rattle.guest_plan.specs.declared.plan.How.TheVariants as measures
-use Rattle.instance_image.specs.Records.{sectors_of}
-use Rattle.guest_boot.specs.Booting.{IsForApk, IsForLine}
+use Rattle.guest_boot.specs.Booting.{IsForApk, IsForLine, OnlyReads}
 use Rattle.guest_rules.proofs.Holding.{pair_is, when_is}
 
 pub data IsBootCall : Call → Type 0 where
@@ -71,18 +70,18 @@ apk_call disk call (inl (inr (inl e))) = subst IsBootCall (sym e) (of_sectors di
 apk_call disk call (inl (inr (inr t))) = subst IsBootCall (sym t.2) (of_sectors disk (t.0 - 40) 40)
 apk_call disk call (inr p) = subst IsBootCall (sym p.1) (of_sectors disk p.0.first (min p.0.sectors 136))
 
-pub boot_call : (l : PlanLine) (call : Call) → IsForLine l call → IsBootCall call
-boot_call (line.Apk disk apk idsig (measures.Fixed m)) call f = apk_call disk call f
-boot_call (line.Apk disk apk idsig measures.First) call f = apk_call disk call f
-boot_call (line.Apk disk apk idsig (measures.Kept uuid)) call (inl f) = apk_call disk call (inl f)
-boot_call (line.Apk disk apk idsig (measures.Kept uuid)) call (inr (inl g)) = subst IsBootCall (sym g.3) (of_sectors g.0.disk (g.0.first + g.1.sector) (1 + sectors_of g.1.size))
-boot_call (line.Apk disk apk idsig (measures.Kept uuid)) call (inr (inr p)) = apk_call disk call (inr p)
-boot_call (line.File name file digest) call e = subst IsBootCall (sym e) (of_descriptor file)
-boot_call (line.Instance disk part) call (inl (inl e)) = subst IsBootCall (sym e) (of_size disk)
-boot_call (line.Instance disk part) call (inl (inr (inl e))) = subst IsBootCall (sym e) (of_sectors disk 0 40)
-boot_call (line.Instance disk part) call (inl (inr (inr t))) = subst IsBootCall (sym t.2) (of_sectors disk (t.0 - 40) 40)
-boot_call (line.Instance disk part) call (inr p) = subst IsBootCall (sym p.1) (of_sectors disk p.0 1)
-boot_call other call e = absurd e
+pub boot_call : (image : Option ℕ) (l : PlanLine) (call : Call) → OnlyReads l → IsForLine image l call → IsBootCall call
+boot_call image (line.Apk disk apk idsig (measures.Fixed m)) call only f = apk_call disk call f
+boot_call image (line.Apk disk apk idsig measures.First) call only f = apk_call disk call f
+boot_call image (line.Apk disk apk idsig (measures.Kept uuid)) call only f = absurd only
+boot_call image (line.File name file digest) call only e = subst IsBootCall (sym e) (of_descriptor file)
+boot_call image (line.Instance disk part) call only (inl (inl e)) = subst IsBootCall (sym e) (of_size disk)
+boot_call image (line.Instance disk part) call only (inl (inr (inl e))) = subst IsBootCall (sym e) (of_sectors disk 0 40)
+boot_call image (line.Instance disk part) call only (inl (inr (inr t))) = subst IsBootCall (sym t.2) (of_sectors disk (t.0 - 40) 40)
+boot_call image (line.Instance disk part) call only (inr p) = subst IsBootCall (sym p.1) (of_sectors disk p.0 1)
+boot_call image (line.Blob file m) call only e = absurd e
+boot_call image (line.Write name file) call only e = absurd only
+boot_call image (line.WriteDir name file) call only e = absurd e
 
 -- ---- the last call that failed
 

@@ -16,7 +16,7 @@ use Rattle.guest_boot.specs.declared.faults.BootCause.TheVariants.{Gpt, NoPart, 
 use Rattle.guest_boot.specs.declared.faults.BootFault.{BootFault}
 use Rattle.guest_boot.specs.Finding.{ReadsTable}
 use Rattle.guest_boot.specs.Recording.{Writing}
-use Rattle.guest_boot.specs.Booting.{Booted, AllOnlyRead, Means, means_of, before_lines, instance_in, IsFault, IsForLines, OnlyReads, LineFails, BlobFails, later_of}
+use Rattle.guest_boot.specs.Booting.{Booted, AllOnlyRead, Means, means_of, before_lines, instance_in, IsFault, IsForLines, OnlyReads, LineFails, BlobFails, later_of, instance_disk}
 use Rattle.guest_boot.proofs.Instances.{stands}
 use Rattle.guest_boot.proofs.Plans.{stays}
 use Rattle.guest_plan.specs.declared.plan.How.TheVariants as measures
@@ -29,7 +29,7 @@ use Rattle.guest_laws.proofs.Asking.{AreHeld, IsBootCall, boot_held, boot_call, 
 use Rattle.guest_laws.proofs.Fits.{Knows, true_table, true_left, true_right}
 use Rattle.guest_laws.proofs.Images.{image_passes}
 use Rattle.guest_laws.proofs.Lines.{line_knows, instance_knows}
-use Rattle.guest_laws.proofs.Unrecorded.{PlainBoots, PlainFrom, PlainFails, from_plain, fails_plain, unrecorded_before, unrecorded_at, none_written, reads_only}
+use Rattle.guest_laws.proofs.Unrecorded.{PlainBoots, PlainFrom, PlainFails, from_plain, fails_plain, unrecorded_before, unrecorded_at, reads_at, none_written, reads_only}
 use Rattle.guest_laws.proofs.Passes.{CanNotFail, apk_passes, file_passes}
 
 -- ---- the line that failed is one of the plan's
@@ -105,9 +105,10 @@ module _ (plan : Known) (entropy : List ℕ) (world : World) (h : Held) (fits : 
   outcome_passes (Err fault) w unrecorded (inl none) = none.0
   outcome_passes (Err fault) w unrecorded (inr f) = fault_passes fault w unrecorded f
 
--- the calls of lines are boot's
-pub lines_call : (lines : List PlanLine) (own : List Made) → Each (reads (IsForLines lines)) own → Each (reads IsBootCall) own
-lines_call lines own each = each_so (reads (IsForLines lines)) (reads IsBootCall) own (λ call given p. (boot_call p.0.line call p.0.for, p.1)) each
+-- the calls of lines of which each only reads are boot's
+pub lines_call : (lines : List PlanLine) (own : List Made) → AllOnlyRead lines → Each (reads (IsForLines lines)) own → Each (reads IsBootCall) own
+lines_call lines own only each = each_so (reads (IsForLines lines)) (reads IsBootCall) own
+    (λ call given p. (boot_call (instance_disk (instance_in lines)) p.0.line call (reads_at lines p.0.at p.0.line only p.0.stands) p.0.for, p.1)) each
 
 -- where none of them has its measure in a record, nothing was written, also where one failed
 by_writes : (writings : List Writing) (l : PlanLine) (mid : Booted) (why : BootCause) (w : List Writing) (t : Trace) → OnlyReads l → LineFails mid l why w t → mid.writings ≡ writings → w ≡ writings
@@ -117,7 +118,7 @@ by_writes writings (line.Apk disk apk idsig (measures.Fixed m)) mid why w t none
 by_writes writings (line.Apk disk apk idsig measures.First) mid why w t none f e = f.0 ∙ e
 by_writes writings (line.Apk disk apk idsig (measures.Kept uuid)) mid why w t none f e = absurd none
 by_writes writings (line.File name file digest) mid why w t none f e = f.0 ∙ e
-by_writes writings (line.Write name file) mid why w t none f e = absurd f
+by_writes writings (line.Write name file) mid why w t none f e = absurd none
 by_writes writings (line.WriteDir name file) mid why w t none f e = absurd f
 
 pub fault_writes : (plan : Known) (entropy : List ℕ) (fault : BootFault) (w : List Writing) (t : Trace) → AllOnlyRead plan.lines → IsFault (means_of plan entropy) plan.lines plan.numbers fault w t → w ≡ []
@@ -137,7 +138,7 @@ pub boots_pass : BootsPass
 boots_pass plan entropy world old new result h done unrecorded told calm fits =
     let did = done.did in
     let after = subst (λ (o : Option Held). HeldAfter old.honest o did.own new.held) told did.talked.held in
-    let calls = lines_call plan.lines did.own (reads_only plan.lines done.writings did.own (writes_none plan entropy result done.writings _ unrecorded did.outcome) did.calls) in
+    let calls = lines_call plan.lines did.own unrecorded (reads_only plan.lines done.writings did.own (writes_none plan entropy result done.writings _ unrecorded did.outcome) did.calls) in
     let boot = boot_held old.honest did.own h after.0 after.2 calls in (
       outcome_passes plan entropy world h fits (trace_of (heard_of did.own) (failures_of did.own) old new) boot.1 (λ call said one last serves. not_failed old new did.own h call said did.talked told calm calls one last serves) result done.writings unrecorded did.outcome,
       after.1 ∙ ap (λ (z : Held). Some z) boot.0,

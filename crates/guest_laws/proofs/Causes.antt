@@ -76,7 +76,10 @@ item_has_line (line.File name f digest ∷ lines) s new own k n it b e at =
 item_has_line (line.Instance d name ∷ lines) s new own k n it b e at =
     let more : length b.2.items ≡ length s.items = ap (λ (z : Booted). length z.items) b.4.1 in
     item_has_line lines b.2 new b.1 k n it b.5 (omega (arith, e, more)) at
-item_has_line (other ∷ lines) s new own k n it b e at = absurd b.4
+item_has_line (line.WriteDir name f ∷ lines) s new own k n it b e at =
+    let more : length b.2.items ≡ length s.items = ap (λ (z : Booted). length z.items) b.4.1 in
+    item_has_line lines b.2 new b.1 k n it b.5 (omega (arith, e, more)) at
+item_has_line (line.Write name f ∷ lines) s new own k n it b e at = absurd b.4
 
 -- a line that names a file of this number with this digest
 record HasLine (lines : List PlanLine) (n : ℕ) (digest : Digest) : Type 0 where

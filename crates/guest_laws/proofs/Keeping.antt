@@ -84,7 +84,7 @@ records_served files plan store entropy old new ended s turns unrecorded r =
     let p = s.made.planned.plan in
     let h : Held = s.made.stock.held in
     let told = s.boots.talked.held in
-    let boot = boot_held true s.booted h told.0 told.2 (lines_call p.lines s.booted (reads_only p.lines s.opened.writings s.booted (none_written p s.bytes (heard_of s.booted) s.opened unrecorded s.boots.opens) s.boots.calls)) in
+    let boot = boot_held true s.booted h told.0 told.2 (lines_call p.lines s.booted unrecorded (reads_only p.lines s.opened.writings s.booted (none_written p s.bytes (heard_of s.booted) s.opened unrecorded s.boots.opens) s.boots.calls)) in
     let g : Setting = setting_of p s.opened in
     let first : State = first_state p s.opened in
     run_kept (FitsInstance p h) g turns (moment first s.mid (heard_of s.booted) (sealings_of s.opened)) _ r.plain (none_first p.lines unrecorded) (λ imaged. first_laid p s.bytes h (heard_of s.booted) s.opened unrecorded s.boots.opens boot.1 imaged) s.boots.talked.honest

@@ -237,7 +237,10 @@ module _ (s new : Fuse) (root : IsRoot (node_at s.names)) (keeps : KeepsNames s 
 
 -- ---- what is listed
 
-no_dir : (number : ℕ) (o : Option Digest) → (if is_dir (kind_by number o) then 4 else 8) ≡ 8
+abbrev type_of : Kind → ℕ
+type_of kind = if is_dir kind then 4 else 8
+
+no_dir : (number : ℕ) (o : Option Digest) → type_of (kind_by number o) ≡ 8
 no_dir number None = refl
 no_dir number (Some digest) = refl
 
@@ -247,7 +250,7 @@ module _ (s new : Fuse) (files : List NamedFile) (planted : ArePlanted s.names f
   unfolding Keeps
   file_kind k f at =
       let y = keeps (k + 2) (node_of f) (planted.nodes k f at) (named_stands (k + 2) (node_of f) 1 refl) in
-      ap kind_number y.1 ∙ ap (λ (kind : Kind). if is_dir kind then 4 else 8) y.2.kind ∙ no_dir f.number f.digest
+      ap kind_number y.1 ∙ ap type_of y.2.kind ∙ no_dir f.number f.digest
 
   entries_listed : (before after : List NamedFile) (c n : ℕ) → files ≡ before ++ after → n ≡ length before + 2 → map (dirent new.names.nodes) (entries_from c n after) ≡ file_dirents c n after
   entries_listed before [] c n cut is = refl

@@ -67,7 +67,10 @@ blob_line file m (line.File name f digest ∷ lines) s new own k n b is e =
 blob_line file m (line.Instance d name ∷ lines) s new own k n b is e =
     let more : length b.2.items ≡ length s.items = ap (λ (z : Booted). length z.items) b.4.1 in
     blob_line file m lines b.2 new b.1 k n b.5 is (omega (arith, e, more))
-blob_line file m (other ∷ lines) s new own k n b is e = absurd b.4
+blob_line file m (line.WriteDir name f ∷ lines) s new own k n b is e =
+    let more : length b.2.items ≡ length s.items = ap (λ (z : Booted). length z.items) b.4.1 in
+    blob_line file m lines b.2 new b.1 k n b.5 is (omega (arith, e, more))
+blob_line file m (line.Write name f ∷ lines) s new own k n b is e = absurd b.4
 
 -- the item of a line, its content, and what is held at its places, at first and where only the instance image's disk was changed
 record IsKept (image : Option Instance) (h : Held) (world : World) (items : List Device) (l : PlanLine) (k : ℕ) : Type 0 where
@@ -204,7 +207,7 @@ module _ (plan : Known) (h : Held) (mid : Told) (booted : List Made) (o : Opened
   turns_served served unrecorded over there r w sealed =
       let opens = over.opens in
       let told = over.talked.held in
-      let boot = boot_held true booted h told.0 told.2 (lines_call plan.lines booted (reads_only plan.lines o.writings booted (none_written plan entropy (heard_of booted) o unrecorded opens) over.calls)) in
+      let boot = boot_held true booted h told.0 told.2 (lines_call plan.lines booted unrecorded (reads_only plan.lines o.writings booted (none_written plan entropy (heard_of booted) o unrecorded opens) over.calls)) in
       let mid_held : mid.held ≡ Some h = told.1 ∙ ap (λ (z : Held). Some z) boot.0 in
       let all : Exchanges = heard_of booted ++ heard_of (calls_of turns) in
       let made : Booted = record { tables = opens.tables; items = o.items; files = o.files; image = o.image; secret = plan.secret; entropy = o.left; writings = o.writings } in
@@ -230,6 +233,6 @@ boots_served files plan store entropy fault world u unrecorded fits =
     let h : Held = u.made.stock.held in
     let start : Told = before h in
     let told = f.talked.held in
-    let calls = lines_call k.lines f.own (reads_only k.lines f.writings f.own (fault_writes k u.bytes fault f.writings (trace_of (heard_of f.own) (failures_of f.own) start f.finish) unrecorded f.is) f.calls) in
+    let calls = lines_call k.lines f.own unrecorded (reads_only k.lines f.writings f.own (fault_writes k u.bytes fault f.writings (trace_of (heard_of f.own) (failures_of f.own) start f.finish) unrecorded f.is) f.calls) in
     let boot = boot_held true f.own h told.0 told.2 calls in
     f.other (fault_passes k u.bytes world h fits (trace_of (heard_of f.own) (failures_of f.own) start f.finish) boot.1 (λ call said one last serves. not_failed start f.finish f.own h call said f.talked refl (inr refl) calls one last serves) fault f.writings unrecorded f.is)

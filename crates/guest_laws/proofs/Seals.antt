@@ -273,7 +273,7 @@ none_forged files plan store entropy old new ended s turns world earlier unrecor
     let p = s.made.planned.plan in
     let h : Held = s.made.stock.held in
     let told = s.boots.talked.held in
-    let boot = boot_held true s.booted h told.0 told.2 (lines_call p.lines s.booted (reads_only p.lines s.opened.writings s.booted (none_written p s.bytes (heard_of s.booted) s.opened unrecorded s.boots.opens) s.boots.calls)) in
+    let boot = boot_held true s.booted h told.0 told.2 (lines_call p.lines s.booted unrecorded (reads_only p.lines s.opened.writings s.booted (none_written p s.bytes (heard_of s.booted) s.opened unrecorded s.boots.opens) s.boots.calls)) in
     let g : Setting = setting_of p s.opened in
     let first : State = first_state p s.opened in
     run_sealed g world earlier known turns (moment first s.mid (heard_of s.booted) (sealings_of s.opened)) _ r.plain h (told.1 ∙ ap (λ (z : Held). Some z) boot.0) (none_first p.lines unrecorded)
@@ -298,7 +298,7 @@ gets_none files plan store entropy old new ended s turns earlier unrecorded r fi
     let p = s.made.planned.plan in
     let h : Held = s.made.stock.held in
     let told = s.boots.talked.held in
-    let boot = boot_held true s.booted h told.0 told.2 (lines_call p.lines s.booted (reads_only p.lines s.opened.writings s.booted (none_written p s.bytes (heard_of s.booted) s.opened unrecorded s.boots.opens) s.boots.calls)) in
+    let boot = boot_held true s.booted h told.0 told.2 (lines_call p.lines s.booted unrecorded (reads_only p.lines s.opened.writings s.booted (none_written p s.bytes (heard_of s.booted) s.opened unrecorded s.boots.opens) s.boots.calls)) in
     let g : Setting = setting_of p s.opened in
     let first : State = first_state p s.opened in
     run_gets g earlier turns (moment first s.mid (heard_of s.booted) (sealings_of s.opened)) _ r.plain h (told.1 ∙ ap (λ (z : Held). Some z) boot.0) (none_first p.lines unrecorded) s.boots.talked.honest

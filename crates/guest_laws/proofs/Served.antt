@@ -68,6 +68,7 @@ row_fails items world t r _ _ (blamed it (cause.Short asked got) at small blame 
 row_fails items world t r _ _ (blamed it (cause.Failed faults) at small blame order right) = inr (blame.failed, refl, faults, refl)
 row_fails items world t r _ _ (blamed it (cause.Tag found) at small blame order right) = absurd blame
 row_fails items world t r _ _ (blamed it (cause.Changed sector) at small blame order right) = absurd blame
+row_fails items world t r _ _ (blamed it cause.Memory at small blame order right) = absurd blame
 row_fails items world t r _ _ (no_memory it at small scarce order right) = inl scarce.failed
 
 turn_fails : (g : Setting) (world : World) (old : Moment) (turn : Turn) (new : Moment) (r : ItemRead) → Step g world old turn new

@@ -1,5 +1,6 @@
 -- A boot of lines for which it only reads: it writes nothing, and each `apk` line is one that opens a device by its idsig alone.
-use Rattle.std.proofs.Common.{◌≡◌, ℕ, ◌∙◌, List, [], ◌∷◌, ◌++◌, map, Option, refl, ap, sym, subst, inl, inr}
+use Rattle.std.proofs.Common.{◌≡◌, ℕ, zero, suc, ◌∙◌, List, [], ◌∷◌, ◌++◌, map, Option, Some, refl, ap, sym, subst, inl, inr}
+use Rattle.std.specs.Prelude.{slice_get}
 use Rattle.std.specs.List.{AllByRecursion}
 use Rattle.host_traits.specs.declared.calls.Call.{Call}
 use Rattle.host_traits.specs.Told.{Told, Exchanges, Made, heard_of}
@@ -96,6 +97,11 @@ fails_plain s (line.WriteDir name file) why w t none f = f
 pub unrecorded_before : (before : List PlanLine) (l : PlanLine) (after : List PlanLine) → AllOnlyRead (before ++ l ∷ after) → AllOnlyRead before
 unrecorded_before [] l after none = tt
 unrecorded_before (k ∷ before) l after none = (none.0, unrecorded_before before l after none.1)
+
+pub reads_at : (lines : List PlanLine) (k : ℕ) (l : PlanLine) → AllOnlyRead lines → slice_get lines k ≡ Some l → OnlyReads l
+reads_at [] k l only at = absurd cc
+reads_at (x ∷ lines) zero l only at = let same : x ≡ l = cc in subst OnlyReads same only.0
+reads_at (x ∷ lines) (suc k) l only at = reads_at lines k l only.1 at
 
 pub unrecorded_at : (before : List PlanLine) (l : PlanLine) (after : List PlanLine) → AllOnlyRead (before ++ l ∷ after) → OnlyReads l
 unrecorded_at [] l after none = none.0
