@@ -1,5 +1,5 @@
 -- A line is read as a frame exactly where it is the frame's line.
-use Rattle.std.proofs.Common.{◌≡◌, ◌<◌, ◌≤◌, ◌+◌, ◌^◌, ℕ, zero, suc, List, [], ◌∷◌, ◌++◌, length, length-append, take, drop, Bool, true, cond, Result, Ok, Err, refl, sym, ap, subst, ◌∙◌, arith, inl, inr}
+use Rattle.std.proofs.Common.{◌≡◌, ◌≤◌, ◌+◌, ◌^◌, ℕ, zero, suc, List, [], ◌∷◌, ◌++◌, length, length-append, take, drop, true, cond, Result, Ok, Err, refl, sym, ap, subst, ◌∙◌, arith, inl, inr}
 use Rattle.std.proofs.lemmas.List.{take-append-drop, length-take, length-drop}
 use Rattle.std.specs.Prelude.{codes}
 use Rattle.std.specs.Str.{bytes_eq}
@@ -17,12 +17,12 @@ use Rattle.text_lines.proofs.Numbers.{bind_ok, chosen, number_takes, number_agai
 use Rattle.session_frames.specs.Frames.{Framed}
 use Rattle.guest_plan.specs.Items.{uuid_of}
 use Rattle.guest_plan.proofs.Uuids.{guid_printed}
-use Rattle.guest_rules.specs.Machine.{ItemRead, item_read}
+use Rattle.guest_rules.specs.Machine.{item_read}
 use Rattle.frame_text.specs.Spelling.{bytes_text, message_line, read_line, get_line, put_line}
 use Rattle.frame_text.specs.Requests.{IsRequest, line_of, line_on}
 use Rattle.frame_text.specs.Reading.{bytes_in, frame_of, framed, get_of, message_of, payload_with, put_of, read_of}
 use Rattle.frame_text.proofs.Digits.{bytes_takes, bytes_again, bytes_printed}
-use Rattle.frame_text.proofs.Payloads.{Fits, again_is, fits, is_read, joined_bytes, firsts, lasts, says}
+use Rattle.frame_text.proofs.Payloads.{again_is, fits, is_read, joined_bytes, firsts, lasts, says}
 use Rattle.frame_text.proofs.Uuids.{Is, uuid_is, uuid_back}
 
 -- this line is that of this request

@@ -1,12 +1,12 @@
 -- What a UUID's text is read as: sixteen bytes.
-use Rattle.std.proofs.Common.{◌≡◌, ◌<◌, ◌≤◌, ◌+◌, ◌*◌, ℕ, zero, suc, List, [], ◌∷◌, length, get_or, take, drop, All, Bool, true, false, ◌&&◌, eqb, if◌then◌else◌, Option, Some, None, Ok, refl, sym, ap, subst, ◌∙◌, lit<, arith, inl, inr}
+use Rattle.std.proofs.Common.{◌≡◌, ◌<◌, ◌+◌, ◌*◌, ℕ, zero, suc, List, [], ◌∷◌, length, get_or, take, drop, All, Bool, true, false, ◌&&◌, eqb, if◌then◌else◌, Option, Some, None, Ok, refl, subst, lit<, arith, inl, inr}
 use Rattle.std.specs.List.{list_all}
 use Rattle.std.specs.Str.{bytes_eq}
 use Rattle.std.proofs.lemmas.Bool.{cases_lt}
 use Rattle.std.proofs.lemmas.Bool.Decides.{nat_tests}
 use Rattle.std.proofs.lemmas.List.{get_or_past}
 use Rattle.hex.specs.Hex.{IsBytes}
-use Rattle.uuid.specs.Text.{by_index, is_hex_digit, value_of, byte_of_digits, digits_of, has_hyphens, has_urn_prefix, parsed, parsed_simple, parsed_hyphenated, parsed_braced, parsed_urn}
+use Rattle.uuid.specs.Text.{by_index, is_hex_digit, value_of, byte_of_digits, digits_of, has_urn_prefix, parsed, parsed_simple, parsed_hyphenated, parsed_braced, parsed_urn}
 use Rattle.uuid.proofs.TextLemmas.{by_index_length, by_index_at, all_fit}
 use Rattle.guid_crc.specs.Guids.{Guid, IsGuid, guid_of, guid_spelled, guid_text}
 use Rattle.guid_crc.proofs.Spelled.{read_text}
