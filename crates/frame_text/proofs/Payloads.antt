@@ -1,13 +1,14 @@
 -- The 16 bytes of a read.
-use Rattle.std.proofs.Common.{◌≡◌, ℕ, zero, suc, ◌^◌, ◌<◌, List, [], ◌∷◌, ◌++◌, get_or, take, drop, refl, sym, ap, ◌∙◌, lit<, arith}
+use Rattle.std.proofs.Common.{◌≡◌, ℕ, zero, suc, ◌^◌, ◌<◌, List, [], ◌∷◌, ◌++◌, length, take, drop, refl, ap, ◌∙◌, lit<, arith}
 use Rattle.std.proofs.lemmas.Nat.{le_bytes_4, le_bytes_8, from_le_bytes-to_le_bytes_4, from_le_bytes-to_le_bytes_8}
 use Rattle.std.specs.Int.{w32, w64, from_le_bytes, to_le_bytes}
 use Rattle.guest_rules.specs.Machine.{ItemRead, item_read}
-use Rattle.frame_text.specs.Requests.{IsRead}
+use Rattle.hex.specs.Hex.{IsBytes}
 use Rattle.frame_text.specs.Reading.{read_with, payload_with}
 
-abbrev pub IsBytes : List ℕ → Type 0
-IsBytes bytes = (i : ℕ) → get_or bytes i 0 < 256
+-- the payload of a read: 16 bytes
+abbrev pub IsRead : List ℕ → Type 0
+IsRead payload = (length payload ≡ 16) × IsBytes payload
 
 -- a read's numbers, which fit
 pub record Fits (r : ItemRead) : Type 0 where
@@ -24,7 +25,7 @@ says item offset size a b c =
     ∙ ap (λ (x : ℕ). read_with item x (from_le_bytes w32 (to_le_bytes w32 size))) o
     ∙ ap (λ (x : ℕ). read_with item offset x) s
 
-joined_bytes : (xs ys : List ℕ) → IsBytes xs → IsBytes ys → IsBytes (xs ++ ys)
+pub joined_bytes : (xs ys : List ℕ) → IsBytes xs → IsBytes ys → IsBytes (xs ++ ys)
 joined_bytes [] ys a b i = b i
 joined_bytes (x ∷ xs) ys a b zero = a 0
 joined_bytes (x ∷ xs) ys a b (suc i) = joined_bytes xs ys (λ k. a (suc k)) b i
@@ -50,7 +51,7 @@ eight_bytes n (suc (suc (suc (suc (suc (suc (suc (suc i)))))))) = lit< tt
 pub is_read : (item offset size : ℕ) → IsRead (payload_with item offset size)
 is_read item offset size = (refl, joined_bytes (to_le_bytes w32 item) (to_le_bytes w64 offset ++ to_le_bytes w32 size) (four_bytes item) (joined_bytes (to_le_bytes w64 offset) (to_le_bytes w32 size) (eight_bytes offset) (four_bytes size)))
 
-firsts : (n : ℕ) (bytes : List ℕ) → IsBytes bytes → IsBytes (take n bytes)
+pub firsts : (n : ℕ) (bytes : List ℕ) → IsBytes bytes → IsBytes (take n bytes)
 firsts zero xs p i = lit< tt
 firsts (suc n) [] p i = lit< tt
 firsts (suc n) (x ∷ xs) p zero = p 0
@@ -62,7 +63,7 @@ below32 b f = omega (arith, f 0, f 1, f 2, f 3)
 below64 : (b : List ℕ) → IsBytes b → from_le_bytes w64 b < 2 ^ 64
 below64 b f = omega (arith, f 0, f 1, f 2, f 3, f 4, f 5, f 6, f 7)
 
-lasts : (n : ℕ) (bytes : List ℕ) → IsBytes bytes → IsBytes (drop n bytes)
+pub lasts : (n : ℕ) (bytes : List ℕ) → IsBytes bytes → IsBytes (drop n bytes)
 lasts zero xs p i = p i
 lasts (suc n) [] p i = lit< tt
 lasts (suc n) (x ∷ xs) p i = lasts n xs (λ k. p (suc k)) i
@@ -74,10 +75,10 @@ fits payload h = record {
   size = below32 (take 4 (drop 12 payload)) (firsts 4 (drop 12 payload) (lasts 12 payload h.1));
 }
 
-abbrev again : ItemRead → List ℕ
+abbrev pub again : ItemRead → List ℕ
 again r = payload_with r.item r.offset r.size
 
-again_is : (payload : List ℕ) → IsRead payload → again (item_read payload) ≡ payload
+pub again_is : (payload : List ℕ) → IsRead payload → again (item_read payload) ≡ payload
 again_is (a ∷ b ∷ c ∷ d ∷ e ∷ f ∷ g ∷ h ∷ i ∷ j ∷ k ∷ l ∷ m ∷ n ∷ o ∷ p ∷ []) is =
     let all : List ℕ = a ∷ b ∷ c ∷ d ∷ e ∷ f ∷ g ∷ h ∷ i ∷ j ∷ k ∷ l ∷ m ∷ n ∷ o ∷ p ∷ [] in
     let first : List ℕ = a ∷ b ∷ c ∷ d ∷ [] in
@@ -90,7 +91,3 @@ again_is (a ∷ b ∷ c ∷ d ∷ e ∷ f ∷ g ∷ h ∷ i ∷ j ∷ k ∷ l �
     ∙ ap (λ (t : List ℕ). first ++ t ++ to_le_bytes w32 (from_le_bytes w32 third)) y
     ∙ ap (λ (t : List ℕ). first ++ second ++ t) z
 again_is _ is = absurd (omega (arith, is.0))
-
--- no two payloads say the same read
-pub payload_one : (p q : List ℕ) → IsRead p → IsRead q → item_read p ≡ item_read q → p ≡ q
-payload_one p q a b e = sym (again_is p a) ∙ ap again e ∙ again_is q b

@@ -1,38 +1,36 @@
--- Streams of reads: a frame more, and that there is one way to split a stream.
-use Rattle.std.proofs.Common.{◌≡◌, ◌≢◌, ◌<◌, ◌+◌, ℕ, zero, suc, lit<, List, [], ◌∷◌, ◌++◌, length, Result, Ok, Err, refl, sym, ap, subst, ◌∙◌, append_assoc, append-nil, length-append, arith}
+-- Streams of requests: a frame more, and that there is one way to split a stream.
+use Rattle.std.proofs.Common.{◌≡◌, ◌≢◌, ◌<◌, ◌+◌, ◌*◌, ℕ, zero, suc, lit<, List, [], ◌∷◌, ◌++◌, length, Result, Ok, Err, refl, sym, ap, subst, ◌∙◌, append_assoc, append-nil, length-append, arith}
 use Rattle.std.specs.Prelude.{IfOk, IfErr, MatchResult}
 use Rattle.std.specs.Int.{w32, to_le_bytes}
-use Rattle.text_lines.specs.Spelling.{ended}
-use Rattle.session_frames.specs.Frames.{Framed, Fronts, IsCutOff, BeginsNone, Held, frame}
+use Rattle.hex.specs.Hex.{IsBytes}
+use Rattle.session_frames.specs.Frames.{Framed, Fronts, IsCutOff, BeginsNone, Held, bytes_of, frame}
 use Rattle.session_frames.proofs.Streams.{front_one, cut_has_none, none_is_some}
-use Rattle.guest_rules.specs.Machine.{ItemRead, item_read}
 use Rattle.frame_text.specs.declared.faults.FrameKind.{FrameKind}
 use Rattle.frame_text.specs.declared.faults.FrameKind.TheVariants as kinds
 use Rattle.frame_text.specs.declared.faults.FrameFault.{FrameFault}
 use Rattle.frame_text.specs.declared.faults.FrameFault.TheVariants as faults
-use Rattle.frame_text.specs.Requests.{IsRead, AreReads, AreSame, line_of, spelled, frames_of}
-use Rattle.frame_text.specs.Reading.{IsWrong, IsBadFrame, BreaksFrames}
-use Rattle.frame_text.proofs.Payloads.{IsBytes}
-use Rattle.frame_text.proofs.Texts.{each_more, more}
+use Rattle.frame_text.specs.Requests.{IsRequest, AreRequests, AreSame, frame_bytes, spelled}
+use Rattle.frame_text.specs.Reading.{IsWrong, IsBadFrame, BreaksFrames, framed}
+use Rattle.frame_text.proofs.Texts.{each_more, line_ended, more}
 
 -- ---- a frame more
 
 -- the frames so far and their lines
 pub record Dumped (bytes rest out : List ℕ) (h : Held) : Type 0 where
-  pub payloads : List (List ℕ)
-  pub each : AreReads payloads
-  pub bytes_is : bytes ≡ frames_of payloads ++ (h.held ++ rest)
-  pub text_is : out ≡ spelled payloads
-  pub at_is : h.at ≡ length (frames_of payloads)
+  pub frames : List Framed
+  pub each : AreRequests frames
+  pub bytes_is : bytes ≡ bytes_of frames ++ (h.held ++ rest)
+  pub text_is : out ≡ spelled frames
+  pub at_is : h.at ≡ length (bytes_of frames)
 
 pub dumped_none : (bytes : List ℕ) → Dumped bytes bytes [] (record { held = []; at = 0 })
-dumped_none bytes = record { payloads = []; each = tt; bytes_is = refl; text_is = refl; at_is = refl }
+dumped_none bytes = record { frames = []; each = tt; bytes_is = refl; text_is = refl; at_is = refl }
 
 pub dumped_fed : (bytes rest later out : List ℕ) (h g : Held) → Dumped bytes rest out h → g.held ++ later ≡ h.held ++ rest → g.at ≡ h.at → Dumped bytes later out g
 dumped_fed bytes rest later out h g d whole at = record {
-  payloads = d.payloads;
+  frames = d.frames;
   each = d.each;
-  bytes_is = d.bytes_is ∙ ap (λ (t : List ℕ). frames_of d.payloads ++ t) (sym whole);
+  bytes_is = d.bytes_is ∙ ap (λ (t : List ℕ). bytes_of d.frames ++ t) (sym whole);
   text_is = d.text_is;
   at_is = at ∙ d.at_is;
 }
@@ -46,57 +44,53 @@ before_bytes [] ys h i = lit< tt
 before_bytes (x ∷ xs) ys h zero = h 0
 before_bytes (x ∷ xs) ys h (suc i) = before_bytes xs ys (λ k. h (suc k)) i
 
-payload_bytes : (front payload behind : List ℕ) → IsBytes (front ++ (frame 1 payload ++ behind)) → IsBytes payload
-payload_bytes front payload behind h = behind_bytes (to_le_bytes w32 (length payload) ++ 1 ∷ 0 ∷ 0 ∷ 0 ∷ []) payload (before_bytes (frame 1 payload) behind (behind_bytes front (frame 1 payload ++ behind) h))
+payload_bytes : (front : List ℕ) (f : Framed) (behind : List ℕ) → IsBytes (front ++ (frame_bytes f ++ behind)) → IsBytes f.payload
+payload_bytes front f behind h = behind_bytes (to_le_bytes w32 (length f.payload) ++ f.channel ∷ 0 ∷ 0 ∷ 0 ∷ []) f.payload (before_bytes (frame_bytes f) behind (behind_bytes front (frame_bytes f ++ behind) h))
 
-pub dumped_more : (bytes rest out payload behind : List ℕ) (h : Held) → Dumped bytes rest out h → Fronts h.held 1 payload behind → IsBytes bytes
-    → Dumped bytes rest (out ++ ended (line_of (item_read payload))) (record { held = behind; at = h.at + length (frame 1 payload) })
-dumped_more bytes rest out payload behind h d f is =
-    let whole : h.held ++ rest ≡ frame 1 payload ++ (behind ++ rest) = ap (λ (t : List ℕ). t ++ rest) f.whole ∙ append_assoc (frame 1 payload) behind rest in
-    let joined = more (λ (p : List ℕ). frame 1 p) d.payloads payload in
-    let split : bytes ≡ frames_of d.payloads ++ (frame 1 payload ++ (behind ++ rest)) = d.bytes_is ∙ ap (λ (t : List ℕ). frames_of d.payloads ++ t) whole in
-    let fits : IsBytes payload = payload_bytes (frames_of d.payloads) payload (behind ++ rest) (subst IsBytes split is) in
+dumped_more : (bytes rest out behind : List ℕ) (f : Framed) (h : Held) → Dumped bytes rest out h → Fronts h.held f.channel f.payload behind → IsBytes bytes
+    → Dumped bytes rest (out ++ line_ended f) (record { held = behind; at = h.at + length (frame_bytes f) })
+dumped_more bytes rest out behind f h d first is =
+    let whole : h.held ++ rest ≡ frame_bytes f ++ (behind ++ rest) = ap (λ (t : List ℕ). t ++ rest) first.whole ∙ append_assoc (frame_bytes f) behind rest in
+    let joined = more frame_bytes d.frames f in
+    let split : bytes ≡ bytes_of d.frames ++ (frame_bytes f ++ (behind ++ rest)) = d.bytes_is ∙ ap (λ (t : List ℕ). bytes_of d.frames ++ t) whole in
+    let fits : IsBytes f.payload = payload_bytes (bytes_of d.frames) f (behind ++ rest) (subst IsBytes split is) in
     record {
-      payloads = d.payloads ++ payload ∷ [];
-      each = each_more d.payloads payload d.each (f.suits.item refl, fits);
-      bytes_is = split ∙ sym (append_assoc (frames_of d.payloads) (frame 1 payload) (behind ++ rest))
+      frames = d.frames ++ f ∷ [];
+      each = each_more d.frames f d.each (record { suits = first.suits; bytes = fits });
+      bytes_is = split ∙ sym (append_assoc (bytes_of d.frames) (frame_bytes f) (behind ++ rest))
           ∙ ap (λ (t : List ℕ). t ++ (behind ++ rest)) (sym joined);
-      text_is = ap (λ (t : List ℕ). t ++ ended (line_of (item_read payload))) d.text_is ∙ sym (more (λ (p : List ℕ). ended (line_of (item_read p))) d.payloads payload);
-      at_is = ap (λ (n : ℕ). n + length (frame 1 payload)) d.at_is ∙ sym (length-append (frames_of d.payloads) (frame 1 payload)) ∙ sym (ap length joined);
+      text_is = ap (λ (t : List ℕ). t ++ line_ended f) d.text_is ∙ sym (more line_ended d.frames f);
+      at_is = ap (λ (n : ℕ). n + length (frame_bytes f)) d.at_is ∙ sym (length-append (bytes_of d.frames) (frame_bytes f)) ∙ sym (ap length joined);
     }
 
-abbrev held_after : List ℕ → Held → ℕ → List ℕ → Held
-held_after behind h channel payload = record { held = behind; at = h.at + length (frame channel payload) }
-
-pub dumped_next : (bytes rest out new payload behind : List ℕ) (channel : ℕ) (h g : Held) (r : ItemRead) → Dumped bytes rest out h → channel ≡ 1 → Fronts h.held channel payload behind → IsBytes bytes → r ≡ item_read payload
-    → new ≡ out ++ ended (line_of r) → g ≡ record { held = behind; at = h.at + length (frame channel payload) } → Dumped bytes rest new g
-dumped_next bytes rest out new payload behind channel h g r d one f is said new_is g_is =
-    let first : Fronts h.held 1 payload behind = subst (λ (n : ℕ). Fronts h.held n payload behind) one f in
-    let later : g ≡ held_after behind h 1 payload = g_is ∙ ap (λ (n : ℕ). held_after behind h n payload) one in
-    rw (new_is, later, said) (dumped_more bytes rest out payload behind h d first is)
+pub dumped_next : (bytes rest out new payload behind : List ℕ) (channel : ℕ) (h g : Held) → Dumped bytes rest out h → Fronts h.held channel payload behind → IsBytes bytes
+    → new ≡ out ++ line_ended (framed channel payload) → g ≡ record { held = behind; at = h.at + length (frame channel payload) } → Dumped bytes rest new g
+dumped_next bytes rest out new payload behind channel h g d f is new_is g_is = rw (new_is, g_is) (dumped_more bytes rest out behind (framed channel payload) h d f is)
 
 pub dumped_all : (bytes rest out : List ℕ) (h : Held) → Dumped bytes rest out h → h.held ≡ [] → rest ≡ [] → AreSame out bytes
 dumped_all bytes rest out h d held none = record {
-  payloads = d.payloads;
+  frames = d.frames;
   each = d.each;
   text_is = d.text_is;
-  bytes_is = d.bytes_is ∙ ap (λ (t : List ℕ). frames_of d.payloads ++ (t ++ rest)) held ∙ ap (λ (t : List ℕ). frames_of d.payloads ++ t) none ∙ append-nil (frames_of d.payloads);
+  bytes_is = d.bytes_is ∙ ap (λ (t : List ℕ). bytes_of d.frames ++ (t ++ rest)) held ∙ ap (λ (t : List ℕ). bytes_of d.frames ++ t) none ∙ append-nil (bytes_of d.frames);
 }
 
 wrong : (bytes rest out : List ℕ) (h : Held) (kind : FrameKind) → Dumped bytes rest out h → 0 < length (h.held ++ rest) → IsWrong (h.held ++ rest) kind → IsBadFrame bytes h.at kind
-wrong bytes rest out h kind d some fault = record { payloads = d.payloads; rest = h.held ++ rest; each = d.each; bytes_is = d.bytes_is; byte_is = d.at_is; some = some; fault = fault }
+wrong bytes rest out h kind d some fault = record { frames = d.frames; rest = h.held ++ rest; each = d.each; bytes_is = d.bytes_is; byte_is = d.at_is; some = some; fault = fault }
 
 filled : (xs : List ℕ) → xs ≢ [] → 0 < length xs
 filled [] h = absurd (h refl)
 filled (x ∷ xs) h = omega arith
 
-some_frame : (channel : ℕ) (payload x : List ℕ) → frame channel payload ++ x ≢ []
-some_frame channel payload x e = absurd cc
+some_frame : (channel : ℕ) (payload : List ℕ) → frame channel payload ≢ []
+some_frame channel payload e = absurd cc
 
-pub wrong_channel : (bytes rest out : List ℕ) (h : Held) (channel : ℕ) (payload behind : List ℕ) → Dumped bytes rest out h → Fronts h.held channel payload behind → channel ≢ 1 → IsBadFrame bytes h.at kinds.Channel
-wrong_channel bytes rest out h channel payload behind d f other =
-    let whole : h.held ++ rest ≡ frame channel payload ++ (behind ++ rest) = ap (λ (t : List ℕ). t ++ rest) f.whole ∙ append_assoc (frame channel payload) behind rest in
-    wrong bytes rest out h kinds.Channel d (filled (h.held ++ rest) (λ e. some_frame channel payload (behind ++ rest) (sym whole ∙ e))) (channel, payload, behind ++ rest, record { suits = f.suits; whole = whole }, other)
+pub smaller : (rest payload behind : List ℕ) (channel : ℕ) (h g : Held) → Fronts h.held channel payload behind → g ≡ record { held = behind; at = h.at + length (frame channel payload) }
+    → 2 * length rest + length g.held < 2 * length rest + length h.held
+smaller rest payload behind channel h g f is =
+    let left : length g.held ≡ length behind = ap (λ (x : Held). length x.held) is in
+    let all : length h.held ≡ length (frame channel payload) + length behind = ap length f.whole ∙ length-append (frame channel payload) behind in
+    omega (arith, left, all, filled (frame channel payload) (some_frame channel payload))
 
 pub wrong_start : (bytes rest out : List ℕ) (h : Held) → Dumped bytes rest out h → BeginsNone h.held → IsBadFrame bytes h.at kinds.Frame
 wrong_start bytes rest out h d none =
@@ -110,53 +104,45 @@ wrong_end bytes rest out h d none some cut =
 
 -- ---- one way
 
-front : (p x : List ℕ) → IsRead p → Fronts (frame 1 p ++ x) 1 p x
-front p x h = record {
-  suits = record { channels = omega arith; least = omega (arith, h.0); most = omega (arith, h.0); message = λ no. absurd (omega arith); item = λ _. h.0; uuid = λ no. absurd (omega arith) };
-  whole = refl;
-}
+front_is : (bytes : List ℕ) (f : Framed) (x : List ℕ) → IsRequest f → bytes ≡ frame_bytes f ++ x → Fronts bytes f.channel f.payload x
+front_is bytes f x h e = record { suits = h.suits; whole = e }
 
-front_is : (bytes p x : List ℕ) → IsRead p → bytes ≡ frame 1 p ++ x → Fronts bytes 1 p x
-front_is bytes p x h e = subst (λ (t : List ℕ). Fronts t 1 p x) (sym e) (front p x h)
+streams_one : (fs gs : List Framed) (rest : List ℕ) → AreRequests fs → AreRequests gs → bytes_of fs ++ rest ≡ bytes_of gs → (behind : List Framed) × AreRequests behind × (gs ≡ fs ++ behind) × (rest ≡ bytes_of behind)
+streams_one [] gs rest a b e = (gs, b, refl, e)
+streams_one (f ∷ fs) [] rest a b e = absurd cc
+streams_one (f ∷ fs) (g ∷ gs) rest a b e =
+    let all : List ℕ = frame_bytes f ++ (bytes_of fs ++ rest) in
+    let whole : all ≡ frame_bytes g ++ bytes_of gs = sym (append_assoc (frame_bytes f) (bytes_of fs) rest) ∙ e in
+    let both = front_one all f.channel g.channel f.payload g.payload (bytes_of fs ++ rest) (bytes_of gs) (front_is all f (bytes_of fs ++ rest) a.0 refl) (front_is all g (bytes_of gs) b.0 whole) in
+    let same : f ≡ g = both.0 in
+    let t = streams_one fs gs rest a.1 b.1 both.1 in
+    (t.0, t.1, ap (λ (x : Framed). x ∷ gs) (sym same) ∙ ap (λ (x : List Framed). f ∷ x) t.2, t.3)
 
-streams_one : (ps qs : List (List ℕ)) (rest : List ℕ) → AreReads ps → AreReads qs → frames_of ps ++ rest ≡ frames_of qs → (behind : List (List ℕ)) × AreReads behind × (qs ≡ ps ++ behind) × (rest ≡ frames_of behind)
-streams_one [] qs rest a b e = (qs, b, refl, e)
-streams_one (p ∷ ps) [] rest a b e = absurd cc
-streams_one (p ∷ ps) (q ∷ qs) rest a b e =
-    let whole : frame 1 p ++ (frames_of ps ++ rest) ≡ frame 1 q ++ frames_of qs = sym (append_assoc (frame 1 p) (frames_of ps) rest) ∙ e in
-    let both = front_one (frame 1 p ++ (frames_of ps ++ rest)) 1 1 p q (frames_of ps ++ rest) (frames_of qs) (front p (frames_of ps ++ rest) a.0) (front_is (frame 1 p ++ (frames_of ps ++ rest)) q (frames_of qs) b.0 whole) in
-    let same : p ≡ q = ap (λ (f : Framed). f.payload) both.0 in
-    let t = streams_one ps qs rest a.1 b.1 both.1 in
-    (t.0, t.1, ap (λ (x : List ℕ). x ∷ qs) (sym same) ∙ ap (λ (x : List (List ℕ)). p ∷ x) t.2, t.3)
-
-none_behind : (ps : List (List ℕ)) → [] ≡ frames_of ps → ps ≡ []
+none_behind : (fs : List Framed) → [] ≡ bytes_of fs → fs ≡ []
 none_behind [] e = refl
-none_behind (p ∷ ps) e = absurd cc
+none_behind (f ∷ fs) e = absurd cc
 
-only_dumped : (out bytes : List ℕ) (qs : List (List ℕ)) → AreReads qs → bytes ≡ frames_of qs → AreSame out bytes → out ≡ spelled qs
-only_dumped out bytes qs b e m =
-    let t = streams_one m.payloads qs [] m.each b (append-nil (frames_of m.payloads) ∙ sym m.bytes_is ∙ e) in
-    let same : qs ≡ m.payloads = t.2 ∙ ap (λ (x : List (List ℕ)). m.payloads ++ x) (none_behind t.0 t.3) ∙ append-nil m.payloads in
+only_dumped : (out bytes : List ℕ) (gs : List Framed) → AreRequests gs → bytes ≡ bytes_of gs → AreSame out bytes → out ≡ spelled gs
+only_dumped out bytes gs b e m =
+    let t = streams_one m.frames gs [] m.each b (append-nil (bytes_of m.frames) ∙ sym m.bytes_is ∙ e) in
+    let same : gs ≡ m.frames = t.2 ∙ ap (λ (x : List Framed). m.frames ++ x) (none_behind t.0 t.3) ∙ append-nil m.frames in
     m.text_is ∙ ap spelled (sym same)
 
-right : (rest p behind : List ℕ) (kind : FrameKind) → Fronts rest 1 p behind → IsWrong rest kind → ⊥
-right rest p behind kinds.Channel f w =
-    let both = front_one rest 1 w.0 p w.1 behind w.2 f w.3 in
-    w.4 (sym (ap (λ (x : Framed). x.channel) both.0))
-right rest p behind kinds.End f w = cut_has_none rest w 1 p behind f
-right rest p behind kinds.Frame f w = w [] 1 p behind (subst (λ (t : List ℕ). Fronts t 1 p behind) (sym (append-nil rest)) f)
+right : (rest : List ℕ) (f : Framed) (behind : List ℕ) (kind : FrameKind) → Fronts rest f.channel f.payload behind → IsWrong rest kind → ⊥
+right rest f behind kinds.End first w = cut_has_none rest w f.channel f.payload behind first
+right rest f behind kinds.Frame first w = w [] f.channel f.payload behind (subst (λ (t : List ℕ). Fronts t f.channel f.payload behind) (sym (append-nil rest)) first)
 
-bad_rest : (rest : List ℕ) (kind : FrameKind) (ps : List (List ℕ)) → AreReads ps → rest ≡ frames_of ps → 0 < length rest → IsWrong rest kind → ⊥
+bad_rest : (rest : List ℕ) (kind : FrameKind) (fs : List Framed) → AreRequests fs → rest ≡ bytes_of fs → 0 < length rest → IsWrong rest kind → ⊥
 bad_rest rest kind [] a e some w = let none : length rest ≡ 0 = ap length e in omega arith
-bad_rest rest kind (p ∷ ps) a e some w = right rest p (frames_of ps) kind (front_is rest p (frames_of ps) a.0 e) w
+bad_rest rest kind (f ∷ fs) a e some w = right rest f (bytes_of fs) kind (front_is rest f (bytes_of fs) a.0 e) w
 
-no_bad_frame : (bytes : List ℕ) (byte : ℕ) (kind : FrameKind) (qs : List (List ℕ)) → AreReads qs → bytes ≡ frames_of qs → IsBadFrame bytes byte kind → ⊥
-no_bad_frame bytes byte kind qs b e m =
-    let t = streams_one m.payloads qs m.rest m.each b (sym m.bytes_is ∙ e) in
+no_bad_frame : (bytes : List ℕ) (byte : ℕ) (kind : FrameKind) (gs : List Framed) → AreRequests gs → bytes ≡ bytes_of gs → IsBadFrame bytes byte kind → ⊥
+no_bad_frame bytes byte kind gs b e m =
+    let t = streams_one m.frames gs m.rest m.each b (sym m.bytes_is ∙ e) in
     bad_rest m.rest kind t.0 t.1 t.3 m.some m.fault
 
 pub only_stream : {V : Type 0} (items : V → List ℕ) (bytes : List ℕ) (r : Result V FrameFault) → IfOk r (λ text. AreSame (items text) bytes) → IfErr r (λ e. BreaksFrames bytes e)
-    → (qs : List (List ℕ)) → AreReads qs → bytes ≡ frames_of qs → MatchResult r (λ text. items text ≡ spelled qs) (λ e. e ≡ faults.Memory)
-only_stream items bytes (Ok text) m f qs b e = only_dumped (items text) bytes qs b e m
-only_stream items bytes (Err (faults.At byte kind)) m f qs b e = absurd (no_bad_frame bytes byte kind qs b e f)
-only_stream items bytes (Err faults.Memory) m f qs b e = refl
+    → (gs : List Framed) → AreRequests gs → bytes ≡ bytes_of gs → MatchResult r (λ text. items text ≡ spelled gs) (λ e. e ≡ faults.Memory)
+only_stream items bytes (Ok text) m f gs b e = only_dumped (items text) bytes gs b e m
+only_stream items bytes (Err (faults.At byte kind)) m f gs b e = absurd (no_bad_frame bytes byte kind gs b e f)
+only_stream items bytes (Err faults.Memory) m f gs b e = refl

@@ -1,3 +1,4 @@
+pub mod Spelling
 pub mod Requests
 pub mod Reading
 pub mod Programs

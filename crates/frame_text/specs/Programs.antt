@@ -24,7 +24,6 @@ line_feed = codes "\n"
 abbrev pub frame_word : FrameKind → List ℕ
 frame_word kinds.Frame = codes "frame"
 frame_word kinds.End = codes "end"
-frame_word kinds.Channel = codes "channel"
 
 -- the lines on standard error
 

@@ -1,34 +1,41 @@
--- Reads of items: as lines of a text, and as frames of a stream.
-use Rattle.std.specs.Prelude.{◌≡◌, ℕ, List, length, flat_map, codes}
+-- Requests: as lines of a text, and as frames of a stream.
+use Rattle.std.specs.Prelude.{◌≡◌, ◌==◌, ℕ, List, length, take, drop, flat_map, if◌then◌else◌}
 use Rattle.std.specs.List.{AllByRecursion}
-use Rattle.std.specs.Fmt.{decimal}
 use Rattle.hex.specs.Hex.{IsBytes}
-use Rattle.text_lines.specs.Spelling.{◌then◌, ended}
-use Rattle.session_frames.specs.Frames.{frame}
-use Rattle.guest_rules.specs.Machine.{ItemRead, item_read}
+use Rattle.text_lines.specs.Spelling.{ended}
+use Rattle.session_frames.specs.Frames.{Framed, IsPayload, frame, bytes_of}
+use Rattle.guest_rules.specs.Machine.{item_read}
+use Rattle.frame_text.specs.Spelling.{message_line, read_line, get_line, put_line}
 
--- the payload of a read: 16 bytes
-abbrev pub IsRead : List ℕ → Type 0
-IsRead payload = (length payload ≡ 16) × IsBytes payload
+-- a frame of a request: bytes, as many as a payload of its channel has
+pub record IsRequest (f : Framed) : Type 0 where
+  pub suits : IsPayload f.channel (length f.payload)
+  pub bytes : IsBytes f.payload
 
-abbrev pub AreReads : List (List ℕ) → Type 0
-AreReads payloads = AllByRecursion IsRead payloads
+abbrev pub AreRequests : List Framed → Type 0
+AreRequests frames = AllByRecursion IsRequest frames
 
--- `read ITEM OFFSET SIZE`
-abbrev pub line_of : ItemRead → List ℕ
-line_of r = codes "read" then decimal r.item then decimal r.offset then decimal r.size
+abbrev pub frame_bytes : Framed → List ℕ
+frame_bytes f = frame f.channel f.payload
 
--- a line for each read, with its line feed
-abbrev pub spelled : List (List ℕ) → List ℕ
-spelled payloads = flat_map (λ payload. ended (line_of (item_read payload))) payloads
+-- the line of a frame: a message of FUSE, a read of an item, a get of a record, or a put of a text into one
+abbrev pub line_on : ℕ → List ℕ → List ℕ
+line_on channel payload =
+    if channel == 0 then message_line payload
+    else if channel == 1 then read_line (item_read payload)
+    else if channel == 2 then get_line payload
+    else put_line (take 16 payload) (drop 16 payload)
 
--- a frame of channel 1 for each read
-abbrev pub frames_of : List (List ℕ) → List ℕ
-frames_of payloads = flat_map (λ payload. frame 1 payload) payloads
+abbrev pub line_of : Framed → List ℕ
+line_of f = line_on f.channel f.payload
 
--- the text and the frames are those of the same reads
+-- a line for each frame, with its line feed
+abbrev pub spelled : List Framed → List ℕ
+spelled frames = flat_map (λ f. ended (line_of f)) frames
+
+-- the text and the bytes are those of the same requests
 pub record AreSame (text bytes : List ℕ) : Type 0 where
-  pub payloads : List (List ℕ)
-  pub each : AreReads payloads
-  pub text_is : text ≡ spelled payloads
-  pub bytes_is : bytes ≡ frames_of payloads
+  pub frames : List Framed
+  pub each : AreRequests frames
+  pub text_is : text ≡ spelled frames
+  pub bytes_is : bytes ≡ bytes_of frames

@@ -7,8 +7,6 @@ pub enum FrameKind {
     Frame,
     /// The bytes end inside a frame.
     End,
-    /// A frame of another channel than that of reads.
-    Channel,
 }
 
 /// The first bad frame by the offset of its first byte, and what is wrong with it.

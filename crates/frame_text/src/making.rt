@@ -1,19 +1,18 @@
 // Frames of a text.
-ghost use Rattle.std.specs.Prelude.{◌≡◌, ◌++◌, ℕ, List, MatchResult, IfOk, IfErr, OnOk};
-ghost use Rattle.std.specs.Int.{w32, w64, to_le_bytes};
+ghost use Rattle.std.specs.Prelude.{◌≡◌, ◌≤◌, ◌∷◌, ◌++◌, ◌+◌, [], List, length, MatchResult, IfOk, IfErr, OnOk};
+ghost use Rattle.std.specs.Int.{w32, to_le_bytes};
 ghost use Rattle.text_lines.specs.declared.kinds.PlanFault.TheVariants.{Memory};
-ghost use Rattle.session_frames.specs.Frames.{frame};
-ghost use Rattle.guest_rules.specs.Machine.{item_read};
-ghost use Rattle.frame_text.specs.Reading.{BreaksText, payload_with, read_with};
 ghost use Rattle.text_lines.specs.Lines.{at_line};
-ghost use Rattle.frame_text.specs.Requests.{AreReads, AreSame, IsRead, frames_of, spelled};
+ghost use Rattle.session_frames.specs.Frames.{Framed, bytes_of, frame};
+ghost use Rattle.frame_text.specs.Reading.{BreaksText, framed_by, payload_with};
+ghost use Rattle.frame_text.specs.Requests.{AreRequests, AreSame, IsRequest, frame_bytes, spelled};
 
-use crate::reading::{first_line, read_line};
+use crate::reading::{RequestLine, first_line, request_of};
 use std::alloc::{AllocError, Global};
 use text_lines::{LineFault, PlanFault, PlanKind};
 
 // The item, offset and size of a read, little-endian.
-fn bytes_of(item: u32, offset: u64, size: u32) -> [u8; 16]
+fn payload_of(item: u32, offset: u64, size: u32) -> [u8; 16]
     ensures { result ≡ payload_with item offset size }
 {
     let [a, b, c, d] = item.to_le_bytes();
@@ -22,21 +21,32 @@ fn bytes_of(item: u32, offset: u64, size: u32) -> [u8; 16]
     [a, b, c, d, e, f, g, h, i, j, k, l, m, n, o, p]
 }
 
-// The payload of a read.
-fn payload_of(item: u32, offset: u64, size: u32) -> [u8; 16]
-    ensures says { item_read result ≡ read_with item offset size }
-    ensures is { IsRead result }
+// Adds the frame whose payload is these two pieces.
+fn put_frame(out: &mut Vec<u8>, channel: u8, front: &[u8], behind: &[u8]) -> Result<(), AllocError>
+    requires { length front.now + length behind.now ≤ 135168 }
+    ensures { OnOk result
+        (out.new.items ≡ out.old.items ++ frame channel (front.now ++ behind.now)) }
 {
-    bytes_of(item, offset, size)
+    let [a, b, c, d] = ((front.len() + behind.len()) as u32).to_le_bytes();
+    out.extend_from_slice(&[a, b, c, d, channel, 0, 0, 0])?;
+    out.extend_from_slice(front)?;
+    out.extend_from_slice(behind)?;
+    Ok(())
 }
 
-// Adds the frame of a read's payload.
-fn put_frame(out: &mut Vec<u8>, payload: &[u8; 16]) -> Result<(), AllocError>
-    ensures { OnOk result (out.new.items ≡ out.old.items ++ frame 1 payload.now) }
+// Adds the frame of a request.
+fn put_request(out: &mut Vec<u8>, request: RequestLine) -> Result<(), AllocError>
+    requires { IsRequest (framed_by request) }
+    ensures { OnOk result (out.new.items ≡ out.old.items ++ frame_bytes (framed_by request)) }
 {
-    out.extend_from_slice(&[16, 0, 0, 0, 1, 0, 0, 0])?;
-    out.extend_from_slice(payload)?;
-    Ok(())
+    match request {
+        RequestLine::Message(bytes) => put_frame(out, 0, &bytes, &[]),
+        RequestLine::Read { item, offset, size } => {
+            put_frame(out, 1, &payload_of(item, offset, size), &[])
+        }
+        RequestLine::Get(uuid) => put_frame(out, 2, &uuid.0, &[]),
+        RequestLine::Put { uuid, text } => put_frame(out, 3, &uuid.0, &text),
+    }
 }
 
 fn at_line(line: u64, fault: LineFault) -> PlanFault
@@ -56,11 +66,11 @@ fn make(alloc: Global, text: &[u8]) -> Result<Vec<u8>, PlanFault>
     let mut rest = text;
     let mut number = 1;
     while let Some((line, after)) = first_line(rest) {
-        let payload = match read_line(line) {
-            Ok(read) => payload_of(read.item, read.offset, read.size),
+        let request = match request_of(alloc, line) {
+            Ok(request) => request,
             Err(fault) => return Err(at_line(number, fault)),
         };
-        match put_frame(&mut out, &payload) {
+        match put_request(&mut out, request) {
             Ok(()) => {}
             Err(_) => return Err(PlanFault::Memory),
         }
@@ -76,16 +86,15 @@ fn make(alloc: Global, text: &[u8]) -> Result<Vec<u8>, PlanFault>
     })
 }
 
-/// The frames of a text's reads.
+/// The frames of a text's requests.
 pub fn frames_of_text(alloc: Global, text: &[u8]) -> Result<Vec<u8>, PlanFault>
-    // The frames are those of the text's reads.
+    // The frames are those of the text's requests.
     ensures made { IfOk result (λ out. AreSame text.now out.items) }
     // The first bad line, and the first thing wrong with it.
     ensures fault { IfErr result (λ e. BreaksText text.now e) }
-    // Each text of reads has its frames.
-    ensures only { (payloads : List (List ℕ)) → AreReads payloads
-        → text.now ≡ spelled payloads
-        → MatchResult result (λ out. out.items ≡ frames_of payloads) (λ e. e ≡ Memory) }
+    // Each text of requests has its frames.
+    ensures only { (frames : List Framed) → AreRequests frames → text.now ≡ spelled frames
+        → MatchResult result (λ out. out.items ≡ bytes_of frames) (λ e. e ≡ Memory) }
 {
     make(alloc, text)
 }

@@ -27,12 +27,11 @@ fn write<K: Sink>(bytes: &[u8], sink: &mut K, status: Status) -> Status
 
 fn word(kind: FrameKind) -> &'static [u8]
     ensures word { result.now ≡ frame_word kind }
-    ensures len { length result.now ≤ 7 }
+    ensures len { length result.now ≤ 5 }
 {
     match kind {
         FrameKind::Frame => b"frame",
         FrameKind::End => b"end",
-        FrameKind::Channel => b"channel",
     }
 }
 
