@@ -53,5 +53,5 @@ def cases():
         yield case(f"{kind} {at}", f"line {line} is refused as {kind}", dict(files, plan=text.encode()),
                    ran("replay plan tape entropy", 2, b"", f"end 2 plan {line} {kind}\n"))
     yield case("each form", "in the grammar: what ends the run is the first line that isn't served yet", dict(files, plan=GOOD.encode()),
-               ran("replay plan tape entropy", 12, b"", "end 12 unbuilt plan 8\n"))
+               ran("replay plan tape entropy", 12, b"", "end 12 unbuilt plan 9\n"))
     yield case("header alone", "a plan without lines is served", dict(files, plan=b"plan 1\n"), ran("replay plan tape entropy"))
